@@ -1,0 +1,17 @@
+pub mod Causes
+pub mod FileName
+pub mod Shelf
+pub mod MemShelf
+pub mod Tray
+pub mod TrayLaws
+pub mod Messages
+pub mod MemTray
+pub mod FileShelf
+pub mod FileTray
+pub mod Numbers
+pub mod Cursor
+pub mod Rounding
+pub mod UnitPixels
+pub mod RoundingLaws
+pub mod Scale
+pub mod ScaleLaws

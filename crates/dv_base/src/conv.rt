@@ -1,0 +1,93 @@
+//! From units of a DVI file to pixels.
+ghost use Rattle.std.specs.Prelude.{◌≡◌, ◌↔◌, ◌*◌, ◌+◌, ◌-◌, ◌^◌, ◌<◌, ◌≤◌, pos, ◌<ℤ◌, ◌≤ℤ◌, unsigned_abs, IsSome, IfSome, MatchOption};
+ghost use Rattle.dv_base.specs.Rounding.{IsNearest, IsCeiling, IsFine, rounded, ceiling};
+ghost use Rattle.dv_base.specs.RoundingLaws.{rounded-nearest};
+ghost use Rattle.dv_base.specs.UnitPixels.{pixels_of_one, IsUsable};
+
+use crate::units::Units;
+use std::marker::Model;
+
+/// Turns lengths in DVI units into whole pixels, by exact fractions.
+///
+/// A length of `x` units is `x · top / bottom` pixels, where `top` is `num · mag · dpi` and `bottom` is `254000 · 1000 · den` (DVI
+/// format, preamble: `num / den` of 10^-7 metres, of which an inch has 254,000, and `mag / 1000`).
+#[derive(Clone, Copy, Debug, PartialEq, Eq, Drop)]
+pub struct Conv {
+    top: u128,
+    bottom: u128,
+}
+
+impl Model for Conv {
+    ghost use Rattle.std.specs.Prelude.{ℕ, ◌<◌, ◌^◌};
+    ghost use Rattle.dv_base.specs.Rounding.{Fraction, IsFine};
+    ghost use Rattle.dv_base.specs.UnitPixels.{IsKept};
+
+    ghost Value = { Fraction };
+
+    ghost view = { λ c. record { top = c.top; bottom = c.bottom } };
+
+    ghost invariant = { λ c. IsKept c.top c.bottom };
+
+    ghost inverse = { λ f. record { top = f.top; bottom = f.bottom } };
+}
+
+/// The number, where it is at least 1.
+fn positive(number: i64) -> Option<u128>
+    ensures { MatchOption result (number ≤ℤ pos 0) (λ n. (number ≡ pos n) × (0 < n)) }
+{
+    match u128::try_from(number) {
+        Ok(n) if n > 0 => Some(n),
+        _ => None,
+    }
+}
+
+impl Conv {
+    /// The conversion of a document's units; `None` exactly where one of them is below 1, or where a unit is so large that
+    /// 2^31 - 1 units are 2^30 pixels or more.
+    pub fn new(units: &Units) -> Option<Conv>
+        requires num { units.now.num <ℤ pos (2 ^ 31) }
+        requires den { units.now.den <ℤ pos (2 ^ 31) }
+        requires mag { units.now.mag <ℤ pos (2 ^ 31) }
+        requires dpi { units.now.dpi ≤ℤ pos 10000 }
+        ensures some { IsSome result ↔ IsUsable units.now }
+        ensures value { IfSome result (λ conv. conv ≡ pixels_of_one units.now) }
+    {
+        let top = positive(units.num)? * positive(units.mag)? * positive(units.dpi)?;
+        let bottom = 254_000 * 1_000 * positive(units.den)?;
+        if top * 0x7fff_ffff < bottom * 0x4000_0000 {
+            Some(Conv { top, bottom })
+        } else {
+            None
+        }
+    }
+
+    /// The length `x` in pixels, rounded to the nearest whole number, a half away from zero.
+    pub fn round(&self, x: i64) -> i64
+        requires { unsigned_abs x < 2 ^ 40 }
+        ensures value { result ≡ rounded self.now x }
+        ensures nearest { IsNearest self.now x result }
+        ensures fine { IsFine self.now }
+        ensures bound { 2 * unsigned_abs result * (2 ^ 31 - 1) ≤ unsigned_abs x * 2 ^ 31 + (2 ^ 31 - 1) }
+    {
+        let length = u128::from(x.unsigned_abs());
+        let pixels = ((2 * length * self.top + self.bottom) / (2 * self.bottom)) as i64;
+        if x < 0 { -pixels } else { pixels }
+    }
+
+    /// The least whole number of pixels that is not below the length `x`.
+    pub fn ceil(&self, x: i64) -> i64
+        requires { unsigned_abs x < 2 ^ 40 }
+        ensures value { result ≡ ceiling self.now x }
+        ensures least { IsCeiling self.now x result }
+        ensures fine { IsFine self.now }
+        ensures bound { unsigned_abs result * (2 ^ 31 - 1) ≤ unsigned_abs x * 2 ^ 30 + (2 ^ 31 - 1) }
+        ensures some { pos 0 <ℤ x → pos 1 ≤ℤ result }
+    {
+        let length = u128::from(x.unsigned_abs());
+        if x < 0 {
+            -((length * self.top / self.bottom) as i64)
+        } else {
+            ((length * self.top + self.bottom - 1) / self.bottom) as i64
+        }
+    }
+}

@@ -1,0 +1,90 @@
+//! The shelf of real files.
+ghost use Rattle.std.specs.Prelude.{◌≡◌, ◌≤◌};
+ghost use Rattle.dv_base.specs.Shelf.{IsWithin};
+
+use crate::shelf::{Got, Shelf};
+use std::alloc::Global;
+use std::fs;
+use std::io::{ErrorKind, Read};
+use std::rt::Files;
+
+/// The name of standard input and of standard output.
+pub(crate) const STANDARD: &str = "-";
+
+/// Files of the current folder, and standard input under the name `-`.
+///
+/// This is the trusted edge: it tells nothing of what the files hold.
+#[derive(Drop)]
+pub struct FileShelf<'a, R: Files + Input> {
+    rt: &'a R,
+    faults: u64,
+    absents: u64,
+    overs: u64,
+}
+
+impl<'a, R: Files + Input> FileShelf<'a, R> {
+    ghost use Rattle.dv_base.specs.FileShelf.{counted, told_of};
+
+    pub fn new(rt: &'a R) -> FileShelf<'a, R>
+        ensures { told_of result ≡ counted 0 0 0 }
+    {
+        FileShelf {
+            rt,
+            faults: 0,
+            absents: 0,
+            overs: 0,
+        }
+    }
+
+    /// Reads a file, or says why not.
+    fn read(&self, alloc: Global, name: &str, limit: u32) -> Got
+        ensures { IsWithin limit result }
+    {
+        if name == STANDARD {
+            return read_up_to(alloc, &mut self.rt.reader(), limit);
+        }
+        match fs::open(self.rt, name) {
+            Ok(mut file) => read_up_to(alloc, &mut file, limit),
+            Err(error) if error.kind() == ErrorKind::NotFound => Got::Absent,
+            Err(_) => Got::Failed,
+        }
+    }
+}
+
+/// Reads to the end, but no more than `limit + 1` bytes: each turn takes at least one.
+fn read_up_to<F: Read>(alloc: Global, from: &mut F, limit: u32) -> Got
+    ensures { IsWithin limit result }
+{
+    let limit = limit as usize;
+    let mut bytes = Vec::new(alloc);
+    let mut block = [0; 16384];
+    while bytes.len() <= limit {
+        let most = (limit + 1 - bytes.len()).min(block.len());
+        let taken = match from.read(&mut block[..most]) {
+            Ok(0) => return Got::Bytes(bytes),
+            Ok(taken) => taken,
+            Err(_) => return Got::Failed,
+        };
+        if bytes.extend_from_slice(&block[..taken]).is_err() {
+            return Got::OutOfMemory;
+        }
+    }
+    Got::TooLong
+}
+
+impl<R: Files + Input> Shelf for FileShelf<'_, R> {
+    ghost use Rattle.dv_base.specs.FileShelf.{told_of};
+
+    ghost told = { told_of };
+
+    fn get(&mut self, alloc: Global, name: &str, limit: u32) -> Got {
+        let got = self.read(alloc, name, limit);
+        match got {
+            Got::Failed => self.faults = self.faults.saturating_add(1),
+            Got::Absent => self.absents = self.absents.saturating_add(1),
+            Got::TooLong => self.overs = self.overs.saturating_add(1),
+            Got::Bytes(_) | Got::OutOfMemory => {}
+        }
+        got
+    }
+}
