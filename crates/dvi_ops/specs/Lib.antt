@@ -1,0 +1,5 @@
+pub mod Command
+pub mod Spelling
+pub mod Placed
+pub mod View
+pub mod Laws

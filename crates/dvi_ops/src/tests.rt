@@ -1,0 +1,111 @@
+//! Spellings and commands by the printed table, and the faults.
+
+use super::*;
+use std::test::Fail;
+
+/// What stands at the front of the bytes, as a text, and where it ends.
+fn shown(rt: &HostRuntime, bytes: &[u8]) -> Result<String, Fail> {
+    if bytes.is_empty() {
+        return Ok(format!(in rt.alloc(); "nothing")?);
+    }
+    match next_cmd(bytes, 0) {
+        Ok((cmd, end)) => Ok(format!(in rt.alloc(); "{cmd:?} {end}")?),
+        Err(fault) => Ok(format!(in rt.alloc(); "{fault:?} {fault}")?),
+    }
+}
+
+#[test]
+fn commands_by_the_table(rt: HostRuntime) -> Result<(), Fail> {
+    let cases: [(&[u8], &str); 30] = [
+        (&[65], "Set(65) 1"),
+        (&[128, 65], "Set(65) 2"),
+        (&[129, 1, 0, 9], "Set(256) 3"),
+        (&[130, 255, 255, 255], "Set(16777215) 4"),
+        (&[131, 255, 255, 255, 255], "Set(-1) 5"),
+        (
+            &[132, 0, 0, 0, 2, 255, 255, 255, 255],
+            "SetRule { a: 2, b: -1 } 9",
+        ),
+        (&[133, 200], "Put(200) 2"),
+        (&[136, 128, 0, 0, 0], "Put(-2147483648) 5"),
+        (
+            &[137, 0, 0, 0, 5, 255, 255, 255, 255],
+            "PutRule { a: 5, b: -1 } 9",
+        ),
+        (&[138], "Nop 1"),
+        (&[140, 141], "Eop 1"),
+        (&[141], "Push 1"),
+        (&[142], "Pop 1"),
+        (&[143, 255], "Right(-1) 2"),
+        (&[145, 128, 0, 0], "Right(-8388608) 4"),
+        (&[147], "W0 1"),
+        (&[148, 127], "W(127) 2"),
+        (&[152], "X0 1"),
+        (&[156, 127, 255, 255, 255], "X(2147483647) 5"),
+        (&[157, 254], "Down(-2) 2"),
+        (&[161], "Y0 1"),
+        (&[163, 1, 0], "Y(256) 3"),
+        (&[166], "Z0 1"),
+        (&[169, 255, 255, 253], "Z(-3) 4"),
+        (&[171], "Fnt(0) 1"),
+        (&[234], "Fnt(63) 1"),
+        (&[235, 255], "Fnt(255) 2"),
+        (&[238, 255, 255, 255, 254], "Fnt(-2) 5"),
+        (&[239, 2, 7, 8, 9], "Xxx([7, 8]) 4"),
+        (
+            &[249, 0, 0, 0, 88, 2, 223],
+            "PostPost { back: 88, id: 2 } 6",
+        ),
+    ];
+    for (bytes, want) in cases {
+        assert_eq!(rt; shown(&rt, bytes)?.as_str(), want);
+    }
+    Ok(())
+}
+
+#[test]
+fn long_commands_and_faults(rt: HostRuntime) -> Result<(), Fail> {
+    let bop = [
+        139, 0, 0, 0, 1, 255, 255, 255, 255, 0, 0, 0, 0, 0, 0, 0, 0, 0, 0, 0, 0, 0, 0, 0, 0, 0, 0,
+        0, 0, 0, 0, 0, 0, 0, 0, 0, 0, 0, 0, 0, 9, 255, 255, 255, 255,
+    ];
+    let definition = [
+        243, 7, 0, 0, 0, 1, 0, 10, 0, 0, 255, 255, 255, 255, 1, 2, 97, 98, 99,
+    ];
+    let pre = [247, 2, 1, 131, 146, 192, 28, 59, 0, 0, 0, 0, 3, 232, 1, 33];
+    let post = [
+        248, 0, 0, 0, 15, 1, 131, 146, 192, 28, 59, 0, 0, 0, 0, 3, 232, 0, 0, 0, 0, 0, 0, 0, 0, 0,
+        1, 255, 255,
+    ];
+    let cases: [(&[u8], &str); 12] = [
+        (
+            &bop,
+            "Bop { counts: [1, -1, 0, 0, 0, 0, 0, 0, 0, 9], back: -1 } 45",
+        ),
+        (
+            &definition,
+            "FntDef(Def { k: 7, checksum: 1, size: 655360, design: -1, name: [97, 98, 99], area: 1 }) 19",
+        ),
+        (
+            &pre,
+            "Pre(Head { id: 2, num: 25400000, den: 473628672, mag: 1000, comment: [33] }) 16",
+        ),
+        (
+            &post,
+            "Post(Tail { back: 15, num: 25400000, den: 473628672, mag: 1000, tall: 0, wide: 0, depth: 1, pages: 65535 }) 29",
+        ),
+        (&[250], "Undefined(0) Undefined"),
+        (&[255, 0], "Undefined(0) Undefined"),
+        (&[128], "Short(0) Short"),
+        (&[131, 0, 0, 0], "Short(0) Short"),
+        (&[239, 2, 7], "Short(0) Short"),
+        (&[242, 255, 255, 255, 255, 0], "Short(0) Short"),
+        (&bop[..44], "Short(0) Short"),
+        (&definition[..18], "Short(0) Short"),
+    ];
+    for (bytes, want) in cases {
+        assert_eq!(rt; shown(&rt, bytes)?.as_str(), want);
+    }
+    one_spelling();
+    Ok(())
+}
