@@ -1,0 +1,11 @@
+pub mod Lexing
+pub mod Leading
+pub mod Reached
+pub mod OneFile
+pub mod Trailers
+pub mod Refuted
+pub mod Further
+pub mod Gathered
+pub mod Defined
+pub mod Names
+pub mod Judged

@@ -1,0 +1,73 @@
+use Rattle.std.proofs.Common.{◌≡◌, ap, subst, ◌∙◌, refl, rules, map, List, length}
+use Rattle.std.proofs.lemmas.Result.{err_from_is_err_and}
+use Rattle.dvi_ops.specs.View.{def_view}
+use Rattle.dvi_ops.specs.declared.cmd.Def.{Def}
+use Rattle.dvi_doc.specs.Grammar.{AllAmong}
+use Rattle.dvi_doc.specs.Faults.{FaultIn, FontFault, Differs}
+use Rattle.dvi_doc.proofs.Judged.{font_fault, differs_fault, tail_fault, doc_found}
+use Rattle.dvi_doc.proofs.Refuted.{refute}
+use Rattle.dvi_doc.proofs.doc.Doc.read.Goals as goal
+
+pub returns-in_err-parts-clause-none : goal.returns-in_err-parts-clause-none
+returns-in_err-parts-clause-none c =
+    let p = err_from_is_err_and c.from_residual.result c.from_residual.ensures.1 in
+    rw (p.1, p.2) (refute c.one_spelling.ensures c.args.bytes.now c.in_err-parts.field-0.0 c.in_err-parts.ensures.fault)
+
+pub returns-in_err-fonts-clause-none : goal.returns-in_err-fonts-clause-none
+returns-in_err-fonts-clause-none c =
+    let p = err_from_is_err_and c.from_residual-in_err-fonts.result c.from_residual-in_err-fonts.ensures.1 in
+    let e = c.in_err-fonts.field-0.0 in
+    let f : FaultIn c.args.bytes.now e = font_fault c.args.bytes.now c.in_ok-parts.parts e c.in_ok-parts.ensures.found (subst (λ (l : List Def). FontFault (map def_view l) e) c.deref.ensures.value c.in_err-fonts.ensures.fault) in
+    rw (p.1, p.2) (refute c.one_spelling.ensures c.args.bytes.now e f)
+
+pub returns-in_err-fonts-clause-fault : goal.returns-in_err-fonts-clause-fault
+returns-in_err-fonts-clause-fault c =
+    let p = err_from_is_err_and c.from_residual-in_err-fonts.result c.from_residual-in_err-fonts.ensures.1 in
+    let e = c.in_err-fonts.field-0.0 in
+    rw (p.1, p.2) (font_fault c.args.bytes.now c.in_ok-parts.parts e c.in_ok-parts.ensures.found (subst (λ (l : List Def). FontFault (map def_view l) e) c.deref.ensures.value c.in_err-fonts.ensures.fault))
+
+pub returns-in_err-check-clause-fault : goal.returns-in_err-check-clause-fault
+returns-in_err-check-clause-fault c =
+    let p = err_from_is_err_and c.from_residual-in_err-check.result c.from_residual-in_err-check.ensures.1 in
+    let e = c.in_err-check.field-0.0 in
+    rw (p.1, p.2) (differs_fault c.args.bytes.now c.in_ok-parts.parts c.in_ok-fonts.fonts e c.in_ok-parts.ensures.found
+    (c.in_ok-fonts.ensures.found.0 ∙ ap (map def_view) c.deref.ensures.value)
+    (subst (λ (l : List Def). Differs c.in_ok-fonts.fonts (map def_view l) e) c.deref-2.ensures.value c.in_err-check.ensures.fault))
+
+pub returns-in_err-check-clause-none : goal.returns-in_err-check-clause-none
+returns-in_err-check-clause-none c =
+    let p = err_from_is_err_and c.from_residual-in_err-check.result c.from_residual-in_err-check.ensures.1 in
+    let e = c.in_err-check.field-0.0 in
+    let f : FaultIn c.args.bytes.now e = differs_fault c.args.bytes.now c.in_ok-parts.parts c.in_ok-fonts.fonts e c.in_ok-parts.ensures.found
+    (c.in_ok-fonts.ensures.found.0 ∙ ap (map def_view) c.deref.ensures.value)
+    (subst (λ (l : List Def). Differs c.in_ok-fonts.fonts (map def_view l) e) c.deref-2.ensures.value c.in_err-check.ensures.fault) in
+    rw (p.1, p.2) (refute c.one_spelling.ensures c.args.bytes.now e f)
+
+pub returns-in_err-check_tail-clause-fault : goal.returns-in_err-check_tail-clause-fault
+returns-in_err-check_tail-clause-fault c =
+    let p = err_from_is_err_and c.from_residual-in_err-check_tail.result c.from_residual-in_err-check_tail.ensures.1 in
+    let e = c.in_err-check_tail.field-0.0 in
+    let n : c.len.result ≡ length c.in_ok-parts.parts.body.pages.items = search rules in
+    rw (p.1, p.2) (tail_fault c.args.bytes.now c.in_ok-parts.parts c.len.result e c.in_ok-parts.ensures.found n c.in_err-check_tail.ensures.fault)
+
+pub returns-in_err-check_tail-clause-none : goal.returns-in_err-check_tail-clause-none
+returns-in_err-check_tail-clause-none c =
+    let p = err_from_is_err_and c.from_residual-in_err-check_tail.result c.from_residual-in_err-check_tail.ensures.1 in
+    let e = c.in_err-check_tail.field-0.0 in
+    let n : c.len.result ≡ length c.in_ok-parts.parts.body.pages.items = search rules in
+    let f : FaultIn c.args.bytes.now e = tail_fault c.args.bytes.now c.in_ok-parts.parts c.len.result e c.in_ok-parts.ensures.found n c.in_err-check_tail.ensures.fault in
+    rw (p.1, p.2) (refute c.one_spelling.ensures c.args.bytes.now e f)
+
+pub invariant_of-result : goal.invariant_of-result
+invariant_of-result c =
+    let n : c.len.result ≡ length c.in_ok-parts.parts.body.pages.items = search rules in
+    doc_found c.args.bytes.now c.in_ok-parts.parts c.in_ok-fonts.fonts c.len.result c.in_ok-parts.ensures.found (c.in_ok-fonts.ensures.found.0 ∙ ap (map def_view) c.deref.ensures.value) c.in_ok-fonts.ensures.found.1
+    (subst (λ (l : List Def). AllAmong c.in_ok-fonts.fonts (map def_view l)) c.deref-2.ensures.value c.in_ok-check.ensures.same) n c.in_ok-check_tail.ensures.same
+
+pub returns-clause-found : goal.returns-clause-found
+returns-clause-found c =
+    let n : c.len.result ≡ length c.in_ok-parts.parts.body.pages.items = search rules in (
+      refl,
+      doc_found c.args.bytes.now c.in_ok-parts.parts c.in_ok-fonts.fonts c.len.result c.in_ok-parts.ensures.found (c.in_ok-fonts.ensures.found.0 ∙ ap (map def_view) c.deref.ensures.value) c.in_ok-fonts.ensures.found.1
+          (subst (λ (l : List Def). AllAmong c.in_ok-fonts.fonts (map def_view l)) c.deref-2.ensures.value c.in_ok-check.ensures.same) n c.in_ok-check_tail.ensures.same,
+    )

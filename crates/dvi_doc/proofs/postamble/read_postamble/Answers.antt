@@ -1,0 +1,66 @@
+use Rattle.std.proofs.Common.{arith, ◌≡◌, ◌∷◌, ◌++◌, [], inl, sym, ap, subst, ◌∙◌, ℕ, map}
+use Rattle.std.proofs.lemmas.List.{map-append, append-nil}
+use Rattle.dvi_ops.specs.Command.{Command}
+use Rattle.dvi_ops.specs.Command.Command.{Nop, FntDef}
+use Rattle.dvi_ops.specs.View.{view, def_view}
+use Rattle.dvi_ops.specs.declared.cmd.Cmd.{Cmd}
+use Rattle.dvi_doc.specs.Document.{put_definition}
+use Rattle.dvi_doc.specs.Order.{SpelledTo, Reaches, reading}
+use Rattle.dvi_doc.specs.Order.Part.{Behind}
+use Rattle.dvi_doc.proofs.Further.{reach_behind, not_filler, not_ending, ending_more, HoldsEnding}
+use Rattle.dvi_doc.proofs.postamble.read_postamble.Goals as goal
+
+pub loop-at-preserved-in-Nop : goal.loop-at-preserved-in-Nop
+loop-at-preserved-in-Nop c =
+    let f = c.in_ok-cmd.ensures.found in
+    let i = c.loop-at.invariant in
+    let bytes = c.args.bytes.now in
+    let at = c.loop-at.at in
+    let end = c.in_ok-cmd.end in
+    let s : SpelledTo bytes at end Nop = subst (λ (x : Cmd). SpelledTo bytes at end (view x)) c.in-Nop.is f.0 in
+    record {
+      onward = omega (arith, i.onward, f.0.0);
+      inside = f.1;
+      holds = ending_more bytes c.args.start at end Nop c.loop-at.fonts.items c.loop-at.fonts.items i.onward s tt (sym (append-nil (map def_view c.loop-at.fonts.items))) i.holds;
+      reached = λ last post h. reach_behind bytes at end last post Nop s tt (i.reached last post h);
+    }
+
+pub loop-at-preserved : goal.loop-at-preserved
+loop-at-preserved c =
+    let f = c.in_ok-cmd.ensures.found in
+    let i = c.loop-at.invariant in
+    let bytes = c.args.bytes.now in
+    let at = c.loop-at.at in
+    let end = c.in_ok-cmd.end in
+    let d : Command = FntDef (def_view c.in-FntDef.def) in
+    let s : SpelledTo bytes at end d = subst (λ (x : Cmd). SpelledTo bytes at end (view x)) c.in-FntDef.is f.0 in
+    let more : map def_view c.push.new.self.items ≡ map def_view c.loop-at.fonts.items ++ put_definition d [] =
+    ap (map def_view) c.in-Ok.ensures.items ∙ map-append def_view c.loop-at.fonts.items (c.in-FntDef.def ∷ []) in
+    record {
+      onward = omega (arith, i.onward, f.0.0);
+      inside = f.1;
+      holds = ending_more bytes c.args.start at end d c.loop-at.fonts.items c.push.new.self.items i.onward s tt more i.holds;
+      reached = λ last post h. reach_behind bytes at end last post d s tt (i.reached last post h);
+    }
+
+pub returns-in_default : goal.returns-in_default
+returns-in_default c =
+    let last = c.requires.reached.0 in
+    let post = c.requires.reached.1 in
+    let f = c.in_ok-cmd.ensures.found in
+    record {
+      found = tt;
+      fault = inl (
+        reading Behind last post,
+        view c.in_ok-cmd.cmd,
+        (c.loop-at.invariant.reached last post c.requires.reached.2, c.in_ok-cmd.end, f.0),
+        not_ending c.args.bytes.now c.loop-at.at c.args.ends c.in_ok-cmd.cmd (not_filler c.in_ok-cmd.cmd c.in_default.not-Nop c.in_default.not-FntDef) c.loop-at-test.true c.requires.trailer.0,
+      );
+    }
+
+pub returns-clause-found : goal.returns-clause-found
+returns-clause-found c =
+    let bytes = c.args.bytes.now in
+    let i = c.loop-at.invariant in
+    let is : c.loop-at.at ≡ c.args.ends = omega (arith, i.inside, c.loop-at-test.false) in
+    (subst (λ (n : ℕ). HoldsEnding bytes c.args.start n c.loop-at.fonts.items) is i.holds, λ last post h. subst (λ (n : ℕ). Reaches bytes n (reading Behind last post)) is (i.reached last post h))

@@ -1,0 +1,7 @@
+pub mod Document
+pub mod Grammar
+pub mod Order
+pub mod View
+pub mod Faults
+pub mod Steps
+pub mod Laws

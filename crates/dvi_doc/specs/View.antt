@@ -1,0 +1,49 @@
+-- What contracts see of pages, fonts and documents of the code.
+use Rattle.std.specs.Prelude.{◌≡◌, ℕ, ℤ, pos, List, map}
+use Rattle.dv_base.specs.FileName.{text_of}
+use Rattle.dvi_ops.specs.Command.{Definition, Preamble, Postamble}
+use Rattle.dvi_doc.specs.Document.{PageOf, Document}
+use Rattle.dvi_doc.specs.Grammar.{IsDoc}
+use Rattle.dvi_doc.specs.declared.page.Page.{Page}
+use Rattle.dvi_doc.specs.declared.font.FontDef.{FontDef}
+
+-- a page by its places, without its commands
+pub record Outline : Type 0 where
+  pub at : ℕ
+  pub first : ℕ
+  pub eop : ℕ
+  pub counts : List ℤ
+
+abbrev pub outline : PageOf → Outline
+outline p = record { at = p.at; first = p.first; eop = p.eop; counts = p.counts }
+
+abbrev pub page_view : Page → Outline
+page_view p = record { at = p.at; first = p.first; eop = p.eop; counts = p.counts }
+
+-- a font of the code is a definition whose sizes are above 0
+abbrev pub font_view : FontDef → Definition
+font_view f =
+    record {
+      k = f.k;
+      checksum = f.key.checksum;
+      size = pos f.key.size;
+      design = pos f.key.design;
+      area = f.area;
+      name = text_of f.key.name;
+    }
+
+-- a document that was read: its bytes, and what was found in them
+pub record ReadDoc : Type 0 where
+  pub bytes : List ℕ
+  pub head : Preamble
+  pub pages : List Outline
+  pub tail : Postamble
+  pub fonts : List Definition
+
+-- what was found is the document's
+abbrev pub Shows : Document → ReadDoc → Type 0
+Shows doc r = (r.head ≡ doc.head) × (r.pages ≡ map outline doc.pages) × (r.tail ≡ doc.tail) × (r.fonts ≡ doc.fonts)
+
+-- the bytes are a document, and what was found is its
+abbrev pub IsRead : ReadDoc → Type 0
+IsRead r = (doc : Document) × IsDoc r.bytes doc × Shows doc r

@@ -1,0 +1,101 @@
+//! One font definition, and whether it is as it should be.
+ghost use Rattle.std.specs.Prelude.{◌≡◌, IsTrue, ◌↔◌, IfOk, IfErr, MatchBool, MatchOption};
+ghost use Rattle.dv_base.specs.FileName.{text_of};
+ghost use Rattle.dvi_ops.specs.View.{def_view};
+ghost use Rattle.dvi_doc.specs.Grammar.{IsName, IsNameByte, IsSize};
+ghost use Rattle.dvi_doc.specs.View.{font_view};
+ghost use Rattle.dvi_doc.specs.Faults.{DefinitionFault};
+
+use crate::fault::DocFault;
+use dv_base::FileName;
+use dvi_ops::Def;
+
+/// What tells one font from another: its name, area included, and the three numbers of its definition. Sizes are in DVI units.
+#[derive(Clone, Copy, PartialEq, Eq, Hash, Drop)]
+pub struct FontKey {
+    pub name: FileName,
+    pub checksum: u32,
+    pub size: u32,
+    pub design: u32,
+}
+
+/// A font that the postamble defines, and its number there.
+#[derive(Clone, Copy, Drop)]
+pub struct FontDef {
+    pub k: i64,
+    pub key: FontKey,
+    area: u8,
+}
+
+/// The largest size, in DVI units.
+const LARGEST: i32 = 134_217_727;
+
+/// Whether a size and a design size are from 1 to 2^27 - 1.
+fn are_sizes(size: i32, design: i32) -> bool
+    ensures { MatchBool result (IsSize size × IsSize design) (IsSize size × IsSize design → ⊥) }
+{
+    1 <= size && size <= LARGEST && 1 <= design && design <= LARGEST
+}
+
+/// Whether a byte may stand in a font's name: a visible ASCII character other than `/`.
+fn is_name_byte(byte: u8) -> bool
+    ensures { IsTrue result ↔ IsNameByte byte }
+{
+    33 <= byte && byte <= 126 && byte != b'/'
+}
+
+/// The name as a text; `None` exactly where it may not be a font's name.
+fn font_name(name: &[u8]) -> Option<FileName>
+    ensures { MatchOption result (IsName name.now → ⊥) (λ text. IsName name.now × (text_of text ≡ name.now)) }
+{
+    if name.is_empty() || name.len() > 255 {
+        return None;
+    }
+    for byte in name {
+        if !is_name_byte(*byte) {
+            return None;
+        }
+    }
+    match str::from_utf8(name) {
+        Ok(text) => FileName::new(text),
+        Err(_) => unreachable!(),
+    }
+}
+
+/// The font of a definition: `BadName` or `BadSize` where it isn't as it should be.
+pub fn font_of(def: Def<'_>) -> Result<FontDef, DocFault>
+    ensures found { IfOk result (λ f. (font_view f ≡ def_view def.entry) × IsName def.entry.name.now × IsSize def.entry.size × IsSize def.entry.design) }
+    ensures fault { IfErr result (DefinitionFault (def_view def.entry)) }
+{
+    let Some(name) = font_name(def.name) else {
+        return Err(DocFault::BadName { k: def.k });
+    };
+    if !are_sizes(def.size, def.design) {
+        return Err(DocFault::BadSize { k: def.k });
+    }
+    let key = FontKey {
+        name,
+        checksum: def.checksum,
+        size: def.size as u32,
+        design: def.design as u32,
+    };
+    Ok(FontDef {
+        k: def.k,
+        key,
+        area: def.area,
+    })
+}
+
+/// Whether a font is what a definition says, in all fields.
+pub fn is_same(font: &FontDef, def: &Def<'_>) -> bool
+    ensures { IsTrue result ↔ (font_view font.now ≡ def_view def.now) }
+{
+    font.k == def.k
+        && font.key.checksum == def.checksum
+        && def.size >= 0
+        && font.key.size == def.size as u32
+        && def.design >= 0
+        && font.key.design == def.design as u32
+        && font.area == def.area
+        && font.key.name.as_str().as_bytes() == def.name
+}

@@ -1,0 +1,99 @@
+//! The pages of a document, up to its postamble.
+ghost use Rattle.std.specs.Prelude.{◌≡◌, ◌≤◌, ◌^◌, length, negsuc, IfOk, IfErr, MatchBool};
+ghost use Rattle.dvi_doc.specs.Order.{Reaches, reading};
+ghost use Rattle.dvi_doc.specs.Order.Part.{Between};
+ghost use Rattle.dvi_doc.specs.Faults.{FaultIn};
+ghost use Rattle.dvi_doc.specs.Steps.{EndsAt, FoundBody, last_of};
+
+use crate::fault::DocFault;
+use crate::page::{Page, read_page};
+use crate::step::read_command;
+use dvi_ops::{Cmd, Def, Tail};
+use std::alloc::Global;
+
+/// What stands between the preamble and the postamble's definitions.
+#[derive(Drop)]
+pub struct Body<'a> {
+    /// The pages, in file order.
+    pub pages: Vec<Page>,
+    /// The font definitions between and inside them.
+    pub earlier: Vec<Def<'a>>,
+    /// The place of `post`.
+    pub post: usize,
+    /// What `post` says.
+    pub tail: Tail,
+    /// The place behind `post`.
+    pub next: usize,
+}
+
+/// Whether a back pointer leads to the last bop, or is -1 where there is none.
+fn is_last(back: i32, last: Option<usize>) -> bool
+    ensures { MatchBool result (back ≡ last_of last) (back ≡ last_of last → ⊥) }
+{
+    match last {
+        None => back == -1,
+        Some(place) => back >= 0 && back as usize == place,
+    }
+}
+
+/// The pages from `start` on, and the postamble's first command behind them.
+pub fn read_pages<'a>(
+    alloc: Global,
+    bytes: &'a [u8],
+    start: usize,
+    ends: usize,
+) -> Result<Body<'a>, DocFault>
+    requires small { length bytes.now ≤ 2 ^ 26 }
+    requires trailer { EndsAt bytes.now ends }
+    requires inside { start ≤ ends }
+    requires reached { Reaches bytes.now start (reading Between (negsuc 0) 0) }
+    ensures found { IfOk result (FoundBody bytes.now start ends) }
+    ensures fault { IfErr result (FaultIn bytes.now) }
+{
+    let mut pages = Vec::new(alloc);
+    let mut earlier = Vec::new(alloc);
+    let mut last = None;
+    let mut at = start;
+    while at < ends {
+        let (cmd, end) = read_command(bytes, at, ends)?;
+        match cmd {
+            Cmd::Nop => at = end,
+            Cmd::FntDef(def) => match earlier.push(def) {
+                Ok(()) => at = end,
+                Err(_) => return Err(DocFault::OutOfMemory),
+            },
+            Cmd::Bop { counts, back } => {
+                if !is_last(back, last) {
+                    return Err(DocFault::BadBackPointer { at: at as u32 });
+                }
+                let (eop, next) = read_page(bytes, end, ends, &mut earlier)?;
+                let page = Page {
+                    at: at as u32,
+                    first: end as u32,
+                    eop: eop as u32,
+                    counts,
+                };
+                match pages.push(page) {
+                    Ok(()) => {}
+                    Err(_) => return Err(DocFault::OutOfMemory),
+                }
+                last = Some(at);
+                at = next;
+            }
+            Cmd::Post(tail) => {
+                if !is_last(tail.back, last) {
+                    return Err(DocFault::BadBackPointer { at: at as u32 });
+                }
+                return Ok(Body {
+                    pages,
+                    earlier,
+                    post: at,
+                    tail,
+                    next: end,
+                });
+            }
+            _ => return Err(DocFault::BadOrder { at: at as u32 }),
+        }
+    }
+    Err(DocFault::BadOrder { at: ends as u32 })
+}

@@ -1,0 +1,41 @@
+//! The font definitions behind `post`.
+ghost use Rattle.std.specs.Prelude.{◌≤◌, ◌^◌, ℕ, ℤ, length, IfOk, IfErr};
+ghost use Rattle.dvi_doc.specs.Order.{Reaches, reading};
+ghost use Rattle.dvi_doc.specs.Order.Part.{Behind};
+ghost use Rattle.dvi_doc.specs.Faults.{FaultIn};
+ghost use Rattle.dvi_doc.specs.Steps.{EndsAt, FoundEnding};
+
+use crate::fault::DocFault;
+use crate::step::read_command;
+use dvi_ops::{Cmd, Def};
+use std::alloc::Global;
+
+/// The definitions from `start`, the place behind `post`, up to the trailer's `post_post` at `ends`.
+pub fn read_postamble<'a>(
+    alloc: Global,
+    bytes: &'a [u8],
+    start: usize,
+    ends: usize,
+) -> Result<Vec<Def<'a>>, DocFault>
+    requires small { length bytes.now ≤ 2 ^ 26 }
+    requires trailer { EndsAt bytes.now ends }
+    requires inside { start ≤ ends }
+    requires reached { (last : ℤ) × (post : ℕ) × Reaches bytes.now start (reading Behind last post) }
+    ensures found { IfOk result (λ fonts. FoundEnding bytes.now start ends fonts.items) }
+    ensures fault { IfErr result (FaultIn bytes.now) }
+{
+    let mut fonts = Vec::new(alloc);
+    let mut at = start;
+    while at < ends {
+        let (cmd, end) = read_command(bytes, at, ends)?;
+        match cmd {
+            Cmd::Nop => at = end,
+            Cmd::FntDef(def) => match fonts.push(def) {
+                Ok(()) => at = end,
+                Err(_) => return Err(DocFault::OutOfMemory),
+            },
+            _ => return Err(DocFault::BadOrder { at: at as u32 }),
+        }
+    }
+    Ok(fonts)
+}
