@@ -1,0 +1,5 @@
+use Rattle.tfm_widths.specs.Faults.{AreIndexed}
+use Rattle.tfm_widths.proofs.layout.Layout.check_indices.Given as goal
+
+abbrev pub invariant-loop-code : goal.invariant-loop-code
+invariant-loop-code l = AreIndexed l.bytes l.code

@@ -1,0 +1,4 @@
+pub mod Lengths
+pub mod Widths
+pub mod Faults
+pub mod Layout
