@@ -1,0 +1,17 @@
+pub mod Bits
+pub mod Numbers
+pub mod Runs
+pub mod Items
+pub mod Reading
+pub mod Raster
+pub mod Filling
+pub mod Progress
+pub mod Font
+pub mod Parts
+pub mod Glyph
+pub mod File
+pub mod PartFaults
+pub mod GlyphFaults
+pub mod Faults
+pub mod Entries
+pub mod Looks
