@@ -1,0 +1,9 @@
+use Rattle.std.proofs.Common.{length, ◌-◌}
+use Rattle.vf_packets.specs.Faults.{LocalsTo}
+use Rattle.vf_packets.proofs.read.read_locals.Given as goal
+
+abbrev pub invariant-definitions : goal.invariant-definitions
+invariant-definitions l = LocalsTo l.bytes l.locals l.at
+
+abbrev pub decreases-definitions : goal.decreases-definitions
+decreases-definitions l = length l.bytes - l.at

@@ -1,0 +1,10 @@
+pub mod Programs
+pub mod Names
+pub mod Font
+pub mod Packets
+pub mod File
+pub mod LocalViews
+pub mod LocalFaults
+pub mod PacketFaults
+pub mod Faults
+pub mod Slots
