@@ -1,0 +1,9 @@
+pub mod Walk
+pub mod Sizes
+pub mod Depth
+pub mod Frame
+pub mod Bare
+pub mod Stopping
+pub mod Passing
+pub mod Lexing
+pub mod TreeLaws

@@ -1,0 +1,10 @@
+pub mod Commands
+pub mod Unbuilt
+pub mod Tree
+pub mod Grid
+pub mod Marks
+pub mod Turn
+pub mod Takes
+pub mod Causes
+pub mod Shallow
+pub mod Laws

@@ -1,0 +1,59 @@
+//! Marks that are handed to a canvas.
+ghost use Rattle.std.specs.Prelude.{◌≡◌, ◌<◌, ◌^◌, [], ◌∷◌, length, OnOk, IfErr, Some, unsigned_abs};
+ghost use Rattle.positions.specs.Conditions.{SameCondition};
+ghost use Rattle.vf_expand.specs.Marks.{rule_marks, special_at};
+ghost use Rattle.vf_expand.specs.Takes.{CanTake, Halts};
+ghost use Rattle.vf_expand.specs.Causes.{IsRefusal};
+
+use crate::fault::Halt;
+use crate::grid::Grid;
+use positions::{Canvas, Pos, SpecialMark};
+
+/// Paints a rule of height `a` and width `b`, where both are above 0.
+pub fn put_rule<C: Canvas>(
+    grid: &Grid,
+    pos: &Pos,
+    a: i64,
+    b: i64,
+    canvas: &mut C,
+) -> Result<(), Halt<C::Fault>>
+    requires a { unsigned_abs a < 2 ^ 31 }
+    requires b { unsigned_abs b < 2 ^ 31 }
+    requires can { CanTake C.can canvas.old (Some (rule_marks grid.now pos.now a b)) }
+    ensures ok { OnOk result (C.takes canvas.old canvas.new (rule_marks grid.now pos.now a b)) }
+    ensures same { OnOk result (SameCondition C.can canvas.old canvas.new) }
+    ensures stops { IfErr result (Halts C.refuses canvas.old canvas.new (Some (rule_marks grid.now pos.now a b))) }
+    ensures cause { IfErr result IsRefusal }
+{
+    if a > 0 && b > 0 {
+        let mark = grid.rule(pos, a, b);
+        match canvas.rule(&mark) {
+            Ok(()) => Ok(()),
+            Err(f) => Err(Halt::Canvas(f)),
+        }
+    } else {
+        Ok(())
+    }
+}
+
+/// Hands on a special at a place.
+pub fn put_special<C: Canvas>(pos: &Pos, bytes: &[u8], canvas: &mut C) -> Result<(), Halt<C::Fault>>
+    requires short { length bytes.now < 2 ^ 31 }
+    requires can { CanTake C.can canvas.old (Some (special_at pos.now bytes.now ∷ [])) }
+    ensures ok { OnOk result (C.takes canvas.old canvas.new (special_at pos.now bytes.now ∷ [])) }
+    ensures same { OnOk result (SameCondition C.can canvas.old canvas.new) }
+    ensures stops { IfErr result (Halts C.refuses canvas.old canvas.new (Some (special_at pos.now bytes.now ∷ []))) }
+    ensures cause { IfErr result IsRefusal }
+{
+    let mark = SpecialMark {
+        bytes,
+        x: pos.hh,
+        y: pos.vv,
+        h: pos.h,
+        v: pos.v,
+    };
+    match canvas.special(&mark) {
+        Ok(()) => Ok(()),
+        Err(f) => Err(Halt::Canvas(f)),
+    }
+}

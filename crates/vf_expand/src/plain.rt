@@ -1,0 +1,153 @@
+//! One command that is neither push nor pop.
+ghost use Rattle.std.specs.Prelude.{◌≡◌, ◌<◌, ◌^◌, ◌⊎◌, ◌+ℤ◌, [], ◌∷◌, OnOk, IfErr, IfOk, OnErr, Some, None, unsigned_abs};
+ghost use Rattle.dvi_ops.specs.Command.Command.{SetRule, PutRule};
+ghost use Rattle.dvi_ops.specs.View.{view};
+ghost use Rattle.positions.specs.Conditions.{SameCondition};
+ghost use Rattle.vf_expand.specs.Commands.{IsBare, special_size};
+ghost use Rattle.vf_expand.specs.Tree.{bracket};
+ghost use Rattle.vf_expand.specs.Tree.Bracket.{Neither};
+ghost use Rattle.vf_expand.specs.Marks.{step, right_by, down_by, past_rule, marks_alone};
+ghost use Rattle.vf_expand.specs.Takes.{CanTake, Follows, Halts};
+ghost use Rattle.vf_expand.specs.Causes.{IsLarge, IsPassed, IsHaltCause};
+
+use crate::fault::Halt;
+use crate::grid::Grid;
+use crate::paint::{put_rule, put_special};
+use dvi_ops::Cmd;
+use positions::{Canvas, Passed, Pos};
+
+/// Moves right by `q`.
+fn go_right<F>(grid: &Grid, pos: &mut Pos, q: i64) -> Result<(), Halt<F>>
+    requires { unsigned_abs q < 2 ^ 39 }
+    ensures ok { OnOk result (right_by grid.now q pos.old ≡ Some pos.new) }
+    ensures none { OnErr result (right_by grid.now q pos.old ≡ None) }
+    ensures cause { IfErr result (IsPassed (IsLarge (pos.old.h +ℤ q))) }
+{
+    match grid.right(pos, q) {
+        Ok(()) => Ok(()),
+        Err(Passed) => Err(Halt::Passed),
+    }
+}
+
+/// Moves down by `q`.
+fn go_down<F>(grid: &Grid, pos: &mut Pos, q: i64) -> Result<(), Halt<F>>
+    requires { unsigned_abs q < 2 ^ 39 }
+    ensures ok { OnOk result (down_by grid.now q pos.old ≡ Some pos.new) }
+    ensures none { OnErr result (down_by grid.now q pos.old ≡ None) }
+    ensures cause { IfErr result (IsPassed (IsLarge (pos.old.v +ℤ q))) }
+{
+    match grid.down(pos, q) {
+        Ok(()) => Ok(()),
+        Err(Passed) => Err(Halt::Passed),
+    }
+}
+
+/// Moves right past a rule of width `b`.
+fn go_past<F>(grid: &Grid, pos: &mut Pos, b: i64) -> Result<(), Halt<F>>
+    requires { unsigned_abs b < 2 ^ 31 }
+    ensures ok { OnOk result (past_rule grid.now b pos.old ≡ Some pos.new) }
+    ensures none { OnErr result (past_rule grid.now b pos.old ≡ None) }
+    ensures cause { IfErr result (IsPassed (IsLarge (pos.old.h +ℤ b))) }
+{
+    match grid.past_rule(pos, b) {
+        Ok(()) => Ok(()),
+        Err(Passed) => Err(Halt::Passed),
+    }
+}
+
+/// The height and width of a rule, where neither is too large.
+fn sizes<F>(a: i32, b: i32) -> Result<(i64, i64), Halt<F>>
+    ensures ok { IfOk result (λ r. (r.0 ≡ a) × (r.1 ≡ b) × (unsigned_abs a < 2 ^ 31) × (unsigned_abs b < 2 ^ 31)) }
+    ensures cause { IfErr result (IsPassed (IsLarge a ⊎ IsLarge b)) }
+{
+    if a == i32::MIN || b == i32::MIN {
+        Err(Halt::Passed)
+    } else {
+        Ok((a as i64, b as i64))
+    }
+}
+
+/// A rule, and a move past it.
+#[tactic(auto, unfolding(crate::specs::Marks::step))]
+fn set_rule<C: Canvas>(
+    grid: &Grid,
+    pos: &mut Pos,
+    a: i32,
+    b: i32,
+    canvas: &mut C,
+) -> Result<(), Halt<C::Fault>>
+    requires { CanTake C.can canvas.old (marks_alone (step grid.now (SetRule a b) (record { place = pos.old; font = None }))) }
+    ensures ok { OnOk result (Follows C.takes canvas.old canvas.new (record { place = pos.new; font = None }) (step grid.now (SetRule a b) (record { place = pos.old; font = None }))) }
+    ensures same { OnOk result (SameCondition C.can canvas.old canvas.new) }
+    ensures stops { IfErr result (Halts C.refuses canvas.old canvas.new (marks_alone (step grid.now (SetRule a b) (record { place = pos.old; font = None })))) }
+    ensures cause { IfErr result (IsHaltCause (SetRule a b) pos.old) }
+{
+    let (height, width) = sizes(a, b)?;
+    let here = *pos;
+    go_past(grid, pos, width)?;
+    put_rule(grid, &here, height, width, canvas)
+}
+
+/// Does one command that is neither push nor pop, on a page without characters.
+#[tactic(auto, unfolding(crate::specs::Marks::step))]
+pub fn plain<C: Canvas>(
+    grid: &Grid,
+    cmd: Cmd<'_>,
+    pos: &mut Pos,
+    canvas: &mut C,
+) -> Result<(), Halt<C::Fault>>
+    requires neither { bracket (view cmd) ≡ Neither }
+    requires bare { IsBare (view cmd) }
+    requires short { special_size (view cmd) < 2 ^ 31 }
+    requires can { CanTake C.can canvas.old (marks_alone (step grid.now (view cmd) (record { place = pos.old; font = None }))) }
+    ensures ok { OnOk result (Follows C.takes canvas.old canvas.new (record { place = pos.new; font = None }) (step grid.now (view cmd.entry) (record { place = pos.old; font = None }))) }
+    ensures same { OnOk result (SameCondition C.can canvas.old canvas.new) }
+    ensures stops { IfErr result (Halts C.refuses canvas.old canvas.new (marks_alone (step grid.now (view cmd.entry) (record { place = pos.old; font = None })))) }
+    ensures cause { IfErr result (IsHaltCause (view cmd.entry) pos.old) }
+{
+    match cmd {
+        Cmd::SetRule { a, b } => set_rule(grid, pos, a, b, canvas),
+        Cmd::PutRule { a, b } => {
+            let (height, width) = sizes(a, b)?;
+            put_rule(grid, pos, height, width, canvas)
+        }
+        Cmd::Xxx(bytes) => put_special(pos, bytes, canvas),
+        Cmd::Nop => Ok(()),
+        Cmd::FntDef(_) => Ok(()),
+        Cmd::Right(q) => go_right(grid, pos, q as i64),
+        Cmd::W0 => {
+            let q = pos.w;
+            go_right(grid, pos, q)
+        }
+        Cmd::W(q) => {
+            pos.w = q as i64;
+            go_right(grid, pos, q as i64)
+        }
+        Cmd::X0 => {
+            let q = pos.x;
+            go_right(grid, pos, q)
+        }
+        Cmd::X(q) => {
+            pos.x = q as i64;
+            go_right(grid, pos, q as i64)
+        }
+        Cmd::Down(q) => go_down(grid, pos, q as i64),
+        Cmd::Y0 => {
+            let q = pos.y;
+            go_down(grid, pos, q)
+        }
+        Cmd::Y(q) => {
+            pos.y = q as i64;
+            go_down(grid, pos, q as i64)
+        }
+        Cmd::Z0 => {
+            let q = pos.z;
+            go_down(grid, pos, q)
+        }
+        Cmd::Z(q) => {
+            pos.z = q as i64;
+            go_down(grid, pos, q as i64)
+        }
+        _ => unreachable!(),
+    }
+}
