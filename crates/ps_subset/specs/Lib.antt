@@ -1,0 +1,14 @@
+pub mod Fraction
+pub mod Token
+pub mod Reading
+pub mod Places
+pub mod State
+pub mod Operators
+pub mod Run
+pub mod Prolog
+pub mod RuleText
+pub mod Leads
+pub mod Conditions
+pub mod Laws
+pub mod NameLaws
+pub mod Samples
