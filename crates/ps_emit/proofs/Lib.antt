@@ -1,0 +1,6 @@
+pub mod Lines
+pub mod Ways
+pub mod Joined
+pub mod Good
+pub mod Owed
+pub mod Takes

@@ -1,0 +1,9 @@
+pub mod Setup
+pub mod Items
+pub mod Written
+pub mod Shown
+pub mod PagesText
+pub mod Expected
+pub mod Laws
+pub mod Taken
+pub mod TakenLaws

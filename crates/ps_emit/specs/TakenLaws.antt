@@ -1,0 +1,91 @@
+-- What an emitter took, put together.
+use Rattle.std.specs.Prelude.{◌≡◌, List, [], ◌∷◌, ◌++◌}
+use Rattle.std.proofs.Common.{refl, sym, ap, ◌∙◌, subst, append_assoc, arith}
+use Rattle.dv_base.specs.Tray.{Seen}
+use Rattle.dv_base.specs.declared.tray.Tray.{Ghosts}
+use Rattle.positions.specs.Mark.{Glyph, Mark}
+use Rattle.positions.specs.Mark.Mark.{OfGlyph, OfRule, OfSpecial}
+use Rattle.positions.specs.Conditions.{SameCondition}
+use Rattle.ps_subset.specs.RuleText.{Item, item_line, item_lines}
+use Rattle.ps_emit.specs.Items.{Pixel, Painted, rule_items, items_of, place_after}
+use Rattle.ps_emit.specs.Written.{Wrote, Cut, wrote_nothing, wrote_more, cut_later, cut_longer}
+use Rattle.ps_emit.specs.Shown.{tray_of, place_of}
+use Rattle.ps_emit.specs.Taken.{painted_of, mark_lines, CanTake, Took, Refused}
+use Rattle.ps_emit.specs.declared.emitter.Emitter.{Emitter}
+
+pub item_lines-append : (is js : List Item) → item_lines (is ++ js) ≡ item_lines is ++ item_lines js
+item_lines-append [] js = refl
+item_lines-append (i ∷ is) js = ap (λ bs. item_line i ++ bs) (item_lines-append is js) ∙ sym (append_assoc (item_line i) (item_lines is) (item_lines js))
+
+painted_of-append : (xs ys : List Mark) → painted_of (xs ++ ys) ≡ painted_of xs ++ painted_of ys
+painted_of-append [] ys = refl
+painted_of-append (OfGlyph g ∷ xs) ys = painted_of-append xs ys
+painted_of-append (OfRule r ∷ xs) ys = ap (λ ps. record { at = record { x = r.x; y = r.y }; columns = r.columns; rows = r.rows } ∷ ps) (painted_of-append xs ys)
+painted_of-append (OfSpecial s ∷ xs) ys = painted_of-append xs ys
+
+items_of-append : (from : Pixel) (ps qs : List Painted) → items_of from (ps ++ qs) ≡ items_of from ps ++ items_of (place_after from ps) qs
+items_of-append from [] qs = refl
+items_of-append from (p ∷ ps) qs =
+    ap (λ is. rule_items from p ++ is) (items_of-append p.at ps qs) ∙ sym (append_assoc (rule_items from p) (items_of p.at ps) (items_of (place_after p.at ps) qs))
+
+place_after-append : (from : Pixel) (ps qs : List Painted) → place_after from (ps ++ qs) ≡ place_after (place_after from ps) qs
+place_after-append from [] qs = refl
+place_after-append from (p ∷ ps) qs = place_after-append p.at ps qs
+
+mark_lines-append : (from : Pixel) (xs ys : List Mark) → mark_lines from (xs ++ ys) ≡ mark_lines from xs ++ mark_lines (place_after from (painted_of xs)) ys
+mark_lines-append from xs ys =
+    ap (λ ps. item_lines (items_of from ps)) (painted_of-append xs ys)
+    ∙ ap item_lines (items_of-append from (painted_of xs) (painted_of ys))
+    ∙ item_lines-append (items_of from (painted_of xs)) (items_of (place_after from (painted_of xs)) (painted_of ys))
+
+place_behind : (from : Pixel) (xs ys : List Mark) → place_after from (painted_of (xs ++ ys)) ≡ place_after (place_after from (painted_of xs)) (painted_of ys)
+place_behind from xs ys = ap (place_after from) (painted_of-append xs ys) ∙ place_after-append from (painted_of xs) (painted_of ys)
+
+-- two lists of marks, one after the other
+both_written : (from next : Pixel) (xs ys : List Mark) (a b c : Seen) → next ≡ place_after from (painted_of xs) → Wrote (mark_lines from xs) a b → Wrote (mark_lines next ys) b c → Wrote (mark_lines from (xs ++ ys)) a c
+both_written from next xs ys a b c e f g =
+    subst (λ text. Wrote text a c) (ap (λ p. mark_lines from xs ++ mark_lines p ys) e ∙ sym (mark_lines-append from xs ys))
+    (wrote_more (mark_lines from xs) (mark_lines next ys) a b c f g)
+
+pub took_nothing : {T : Type 0} {G : Ghosts T} (e : Emitter T G) → Took e e []
+took_nothing {T} {G} e = record { wrote = wrote_nothing (G.seen (tray_of e)); loan_same = refl; comments_same = refl; place = refl }
+
+-- a glyph writes nothing
+pub took_glyph : {T : Type 0} {G : Ghosts T} (e : Emitter T G) (g : Glyph) → Took e e (OfGlyph g ∷ [])
+took_glyph {T} {G} e g = let f = took_nothing e in record { wrote = f.wrote; comments_same = f.comments_same; place = f.place; loan_same = f.loan_same }
+
+pub took_more : {T : Type 0} {G : Ghosts T} (a b c : Emitter T G) (xs ys : List Mark) → Took a b xs → Took b c ys → Took a c (xs ++ ys)
+took_more {T} {G} a b c xs ys f g = record {
+  wrote = both_written (place_of a) (place_of b) xs ys (G.seen (tray_of a)) (G.seen (tray_of b)) (G.seen (tray_of c)) f.place f.wrote g.wrote;
+  loan_same = g.loan_same ∙ f.loan_same;
+  comments_same = g.comments_same ∙ f.comments_same;
+  place = g.place ∙ ap (λ p. place_after p (painted_of ys)) f.place ∙ sym (place_behind (place_of a) xs ys);
+}
+
+pub refused_after : {T : Type 0} {G : Ghosts T} (a b c : Emitter T G) (xs ys : List Mark) (mark : Mark) → Took a b xs → Refused b c ys mark → Refused a c (xs ++ ys) mark
+refused_after {T} {G} a b c xs ys mark f g = record {
+  between = g.between;
+  wrote = both_written (place_of a) (place_of b) xs ys (G.seen (tray_of a)) (G.seen (tray_of b)) g.between f.place f.wrote g.wrote;
+  cut =
+      subst (λ p. Cut (mark_lines p (mark ∷ [])) g.between (G.seen (tray_of c)))
+      (ap (λ p. place_after p (painted_of ys)) f.place ∙ sym (place_behind (place_of a) xs ys)) g.cut;
+  loan_same = g.loan_same ∙ f.loan_same;
+  comments_same = g.comments_same ∙ f.comments_same;
+}
+
+-- what has been taken leaves an output begun
+pub same_condition : {T : Type 0} {G : Ghosts T} (old new : Emitter T G) (marks : List Mark) → Took old new marks → SameCondition CanTake old new
+same_condition {T} {G} old new marks f mark =
+    let e = f.wrote.keeps.begun_same in
+    ((λ h. (omega (arith, e, h.0), h.1)), (λ h. (omega (arith, e, h.0), h.1)))
+
+-- a mark that is refused cuts the lines of all marks of which it is the next
+pub refused_cut : {T : Type 0} {G : Ghosts T} (a b : Emitter T G) (xs : List Mark) (mark : Mark) (rest all : List Mark) → Refused a b xs mark → xs ++ mark ∷ rest ≡ all → Cut (mark_lines (place_of a) all) (G.seen (tray_of a)) (G.seen (tray_of b))
+refused_cut {T} {G} a b xs mark rest all f e =
+    let next : Pixel = place_after (place_of a) (painted_of xs) in
+    let whole : mark_lines (place_of a) xs ++ (mark_lines next (mark ∷ []) ++ mark_lines (place_after next (painted_of (mark ∷ []))) rest) ≡ mark_lines (place_of a) all =
+    ap (λ text. mark_lines (place_of a) xs ++ text) (sym (mark_lines-append next (mark ∷ []) rest))
+    ∙ sym (mark_lines-append (place_of a) xs (mark ∷ rest)) ∙ ap (mark_lines (place_of a)) e in
+    subst (λ text. Cut text (G.seen (tray_of a)) (G.seen (tray_of b))) whole
+    (cut_later (mark_lines (place_of a) xs) (mark_lines next (mark ∷ []) ++ mark_lines (place_after next (painted_of (mark ∷ []))) rest) (G.seen (tray_of a)) f.between (G.seen (tray_of b)) f.wrote
+    (cut_longer (mark_lines next (mark ∷ [])) (mark_lines (place_after next (painted_of (mark ∷ []))) rest) f.between (G.seen (tray_of b)) f.cut))

@@ -1,0 +1,77 @@
+//! The lines before the first page and behind the last.
+ghost use Rattle.std.specs.Prelude.{◌≡◌, ◌≤◌, ◌+◌, ◌++◌, length};
+ghost use Rattle.ps_subset.specs.RuleText.{comment_line};
+ghost use Rattle.ps_emit.specs.Setup.{head_text, job_text, points_up, trailer_of};
+
+use crate::setup::Setup;
+use dv_base::Line;
+
+/// A length in scaled points as whole points of PostScript, rounded up.
+fn points_up(length: i64) -> u128
+    ensures { result ≡ points_up length }
+{
+    (u128::from(length.unsigned_abs()) * 7200).div_ceil(473_628_672)
+}
+
+/// Appends a structured comment and its line end, where there are comments.
+fn comment(line: &mut Line, comments: bool, text: &[u8])
+    requires { length line.old + length text.now + 1 ≤ 1024 }
+    ensures value { line.new ≡ line.old ++ comment_line comments text.now }
+    ensures len { length line.new ≤ length line.old + length text.now + 1 }
+{
+    if comments {
+        line.text(text);
+        line.text(b"\n");
+    }
+}
+
+/// The comments at the head of a text, and the one before the prolog.
+pub fn head(comments: bool, setup: &Setup) -> Line
+    ensures { result ≡ head_text comments setup.now }
+{
+    let mut line = Line::new();
+    if !comments {
+        line.text(b"%!PS\n");
+        return line;
+    }
+    line.text(b"%!PS-Adobe-2.0\n%%Creator: texdvi\n%%Title: ");
+    line.text(setup.title.as_str().as_bytes());
+    line.text(b"\n%%Pages: ");
+    line.number(setup.pages);
+    line.text(b"\n%%BoundingBox: 0 0 ");
+    line.field(points_up(setup.paper.0));
+    line.number(points_up(setup.paper.1));
+    line.text(b"\n%%EndComments\n%%BeginProlog\n");
+    line
+}
+
+/// What stands between the prolog and the first section: the number of copies and the numbers of the page.
+pub fn job(comments: bool, setup: &Setup) -> Line
+    ensures { result ≡ job_text comments setup.now }
+{
+    let mut line = Line::new();
+    comment(&mut line, comments, b"%%EndProlog");
+    comment(&mut line, comments, b"%%BeginSetup");
+    line.text(b"/#copies ");
+    line.field(setup.copies);
+    line.text(b"def\nTeXDict begin\n");
+    line.field(setup.paper.1);
+    line.field(setup.dpi.0);
+    line.field(setup.dpi.1);
+    line.field(setup.origin.0);
+    line.field(setup.origin.1);
+    line.text(b"TS\n");
+    comment(&mut line, comments, b"%%EndSetup");
+    line
+}
+
+/// What stands behind the last section.
+pub fn trailer(comments: bool) -> Line
+    ensures { result ≡ trailer_of comments }
+{
+    let mut line = Line::new();
+    comment(&mut line, comments, b"%%Trailer");
+    line.text(b"end\n");
+    comment(&mut line, comments, b"%%EOF");
+    line
+}
