@@ -1,0 +1,12 @@
+pub mod Numerals
+pub mod Listed
+pub mod DocPages
+pub mod Ready
+pub mod Few
+pub mod GoodJob
+pub mod Outputs
+pub mod Checked
+pub mod Complete
+pub mod PageWritten
+pub mod Printed
+pub mod WrittenPages

@@ -1,0 +1,13 @@
+pub mod Language
+pub mod Words
+pub mod Job
+pub mod JobView
+pub mod Status
+pub mod Message
+pub mod Reading
+pub mod Printing
+pub mod Pages
+pub mod Runs
+pub mod Coming
+pub mod Each
+pub mod Headline

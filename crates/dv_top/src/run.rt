@@ -1,0 +1,71 @@
+//! The one call of the program.
+ghost use Rattle.std.specs.Prelude.{◌≡◌, map};
+ghost use Rattle.std.specs.String.{string_bytes};
+ghost use Rattle.dv_top.specs.Headline.{IsComplete, Leaves, Runs, SaysLine, WordsLeave};
+ghost use Rattle.dv_top.specs.JobView.{job_view};
+ghost use Rattle.dv_top.specs.Message.{message_of};
+ghost use Rattle.dv_top.specs.Printing.{IsGoodJob};
+
+use crate::message::message;
+use crate::outcome::Outcome;
+use crate::print::print_bytes;
+use crate::read::read_input;
+use crate::words::{Job, read_words};
+use dv_base::{Shelf, Tray};
+use std::alloc::Global;
+
+/// Reads the input of a job and prints it.
+fn run_job<S: Shelf, T: Tray>(alloc: Global, job: &Job, shelf: &mut S, tray: &mut T) -> Outcome
+    requires { IsGoodJob (job_view job.now) }
+    ensures { Leaves (job_view job.now) (S.told shelf.old) (S.told shelf.new) (T.seen tray.old) (T.seen tray.new) result }
+{
+    match read_input(alloc, &job.input, shelf) {
+        Ok(bytes) => match print_bytes(alloc, job, &bytes, tray) {
+            Ok(()) => Outcome::Done,
+            Err(outcome) => outcome,
+        },
+        Err(outcome) => outcome,
+    }
+}
+
+/// Does what the words ask for.
+fn run_words<S: Shelf, T: Tray>(
+    alloc: Global,
+    words: &[String],
+    shelf: &mut S,
+    tray: &mut T,
+) -> Outcome
+    ensures { WordsLeave (map string_bytes words.now) (S.told shelf.old) (S.told shelf.new) (T.seen tray.old) (T.seen tray.new) result }
+{
+    match read_words(words) {
+        Ok(job) => run_job(alloc, &job, shelf, tray),
+        Err(index) => Outcome::BadWords { index },
+    }
+}
+
+/// Says the message of an outcome, if it has one.
+fn say_outcome<T: Tray>(outcome: &Outcome, tray: &mut T)
+    ensures { SaysLine (message_of outcome.now) (T.seen tray.old) (T.seen tray.new) }
+{
+    if let Some(line) = message(outcome) {
+        tray.say(line.as_slice());
+    }
+}
+
+/// Does all that the program does: reads the words and the input they name, writes the text, and says how it ended.
+///
+/// The words are `dvips`, `-D`, the dots an inch from 10 to 10,000, `-o`, the output's name and the input's name. The input is read
+/// from the shelf, the text goes to the tray as one output. No output is begun before the whole document has been looked at.
+pub fn run_tool<S: Shelf, T: Tray>(
+    alloc: Global,
+    words: &[String],
+    shelf: &mut S,
+    tray: &mut T,
+) -> Outcome
+    ensures run { Runs (map string_bytes words.now) (S.told shelf.old) (S.told shelf.new) (T.seen tray.old) (T.seen tray.new) result }
+    ensures complete { IsComplete (map string_bytes words.now) (S.told shelf.old) (S.told shelf.new) (T.seen tray.old) (T.seen tray.new) result }
+{
+    let outcome = run_words(alloc, words, shelf, tray);
+    say_outcome(&outcome, tray);
+    outcome
+}
