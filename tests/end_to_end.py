@@ -1,0 +1,210 @@
+"""Runs the built program on real files in a scratch folder, and compares status, standard error, and what is written."""
+
+import os
+import shutil
+import subprocess
+import sys
+import tempfile
+from fractions import Fraction
+
+import documents as dvi
+
+TOP = os.path.dirname(os.path.dirname(os.path.abspath(__file__)))
+PROGRAM = os.path.join(TOP, "crates", "texdvi", "out", "texdvi")
+with open(os.path.join(TOP, "crates", "texdvi", "stdout"), "rb") as file:
+    STORED = file.read()  # the text of rule.dvi, as the program's stored run has it
+HEAD, TAIL = STORED[: STORED.index(b"bos\n")], STORED[STORED.index(b"%%Trailer") :]
+
+passed, failed = 0, 0
+
+
+def check(name, got, want):
+    global passed, failed
+    if got == want:
+        passed += 1
+    else:
+        failed += 1
+        print(f"FAILED {name}:\n  got  {got!r:.2000}\n  want {want!r:.2000}")
+
+
+class Folder:
+    """A scratch folder with some files, in which the program runs."""
+
+    def __init__(self, **files):
+        self.path = tempfile.mkdtemp(prefix="texdvi-")
+        for name, content in files.items():
+            self.put(name.replace("_", "."), content)
+
+    def __enter__(self):
+        return self
+
+    def __exit__(self, *_):
+        shutil.rmtree(self.path)
+
+    def put(self, name, content):
+        with open(os.path.join(self.path, name), "wb") as file:
+            file.write(content)
+
+    def get(self, name):
+        try:
+            with open(os.path.join(self.path, name), "rb") as file:
+                return file.read()
+        except FileNotFoundError:
+            return None
+
+    def run(self, *words, stdin=b"", stdout=subprocess.PIPE):
+        done = subprocess.run(
+            [PROGRAM, *words], cwd=self.path, input=stdin, stdout=stdout, stderr=subprocess.PIPE, timeout=60
+        )
+        return done.returncode, done.stdout, done.stderr
+
+
+def text(title, pages, dpi=300):
+    """The text of pages, each a pair of a label and the lines between bop and eop."""
+    head = HEAD.replace(b"%%Title: rule.dvi", b"%%Title: " + title).replace(b"%%Pages: 1", b"%%%%Pages: %d" % len(pages))
+    head = head.replace(b"300 300 300 300 TS", b"%d %d %d %d TS" % (dpi, dpi, dpi, dpi))
+    body = b""
+    for place, (label, lines) in enumerate(pages, 1):
+        body += b"%%%%Page: %d %d\nbop\n" % (label, place) + lines + b"eop\n"
+    return head + (b"bos\n" + body + b"eos\n" if pages else b"") + TAIL
+
+
+def refused(name, content, status, message, words=("dvips", "-D", "300", "-o", "out.ps", "in.dvi")):
+    """A run that is refused says its line, begins no output, and leaves an old one as it was."""
+    with Folder(out_ps=b"as it was") as folder:
+        if content is not None:
+            folder.put("in.dvi", content)
+        check(name, folder.run(*words), (status, b"", b"texdvi: " + message + b"\n"))
+        check(name + ", output", folder.get("out.ps"), b"as it was")
+
+
+def prints(name, content, pages, dpi=300):
+    with Folder(in_dvi=content) as folder:
+        check(name, folder.run("dvips", "-D", str(dpi), "-o", "out.ps", "in"), (0, b"", b""))
+        check(name + ", text", folder.get("out.ps"), text(b"in.dvi", pages, dpi))
+
+
+def files_and_streams():
+    with Folder(rule_dvi=dvi.RULE, out_ps=b"an old and longer output" * 1000) as folder:
+        words = ("dvips", "-D", "300", "-o")
+        check("to a file", folder.run(*words, "out.ps", "rule.dvi"), (0, b"", b""))
+        check("to a file, text", folder.get("out.ps"), STORED)
+        check("to standard output", folder.run(*words, "-", "rule"), (0, STORED, b""))
+        check("to a file of an odd name", folder.run(*words, "-x", "rule.dvi"), (0, b"", b""))
+        check("to a file of an odd name, text", folder.get("-x"), STORED)
+        title = STORED.replace(b"%%Title: rule.dvi", b"%%Title: -")
+        check("from standard input", folder.run(*words, "-", "-", stdin=dvi.RULE), (0, title, b""))
+        check("an output that can't be made", folder.run(*words, "no/out.ps", "rule.dvi"), (4, b"", b"texdvi: WriteFault\n"))
+        if os.path.exists("/dev/full"):
+            check("a full device", folder.run(*words, "/dev/full", "rule.dvi"), (4, b"", b"texdvi: WriteFault\n"))
+            with open("/dev/full", "wb") as full:
+                status, _, said = folder.run(*words, "-", "rule.dvi", stdout=full)
+            check("a full standard output", (status, said), (4, b"texdvi: WriteFault\n"))
+
+
+def words():
+    good = ["dvips", "-D", "300", "-o", "out.ps", "in.dvi"]
+    wrong = {
+        0: ["dvitype", "", "-dvips"],
+        1: ["-d", "-D300", "in.dvi"],
+        2: ["9", "10001", "-300", "+300", "3OO", "", "00000000300"],
+        3: ["-O", "out.ps"],
+        4: ["", "o" * 501, "a b", "\u00e9"],
+        5: ["-x", "", "a b", "i" * 501],
+    }
+    for index, candidates in wrong.items():
+        for word in candidates:
+            bad = good[:index] + [word] + good[index + 1 :]
+            refused(f"word {index} {word!r}", dvi.RULE, 2, b"BadWords %d" % index, bad)
+    for length in range(6):
+        refused(f"{length} words", dvi.RULE, 2, b"BadWords %d" % length, good[:length])
+    refused("seven words", dvi.RULE, 2, b"BadWords 6", good + ["in.dvi"])
+
+
+def inputs():
+    refused("no input", None, 1, b"Missing in.dvi")
+    refused("a long input", dvi.RULE + b"\xdf" * 1_000_000, 1, b"FileTooLong in.dvi")
+    with Folder() as folder:
+        os.mkdir(os.path.join(folder.path, "in.dvi"))
+        check("a folder as input", folder.run("dvips", "-D", "300", "-o", "out.ps", "in"), (3, b"", b"texdvi: ReadFault in.dvi\n"))
+
+
+def documents():
+    rule = dvi.RULE
+    changed = lambda at, value: rule[:at] + value + rule[at + len(value) :]
+    refused("a character", dvi.ONE, 1, b"NotBuilt 81")
+    refused("an empty file", b"", 1, b"BadDvi NoPreamble")
+    refused("a short trailer", rule[:-2], 1, b"BadDvi NoTrailer")
+    refused("a den of 0", dvi.document([(1, dvi.RULES)], den=0), 1, b"BadConv 25400000 0 1000 300")
+    refused("a wrong pointer of post", changed(89, dvi.number(14)), 1, b"BadDvi BadBackPointer 88")
+    refused("a wrong number of pages", changed(115, dvi.number(2, 2)), 1, b"BadDvi PageCount 1 2")
+    refused("an undefined byte", changed(60, b"\xfa"), 1, b"BadDvi Undefined 60")
+    refused("a wrong pointer to post", changed(118, dvi.number(87)), 1, b"BadDvi BadPostPointer 117")
+    refused("another version", changed(1, b"\x03"), 1, b"BadDvi BadId 1")
+    # each with four bytes 223 at its end, the fewest there may be
+    for name, whole in [("rules", rule[:-1]), ("a character", dvi.ONE)]:
+        for length in range(len(whole)):
+            with Folder(in_dvi=whole[:length]) as folder:
+                status, out, said = folder.run("dvips", "-D", "300", "-o", "-", "in")
+                check(f"the first {length} bytes of {name}", (status, out, said[:15]), (1, b"", b"texdvi: BadDvi "))
+
+
+def pages():
+    prints("no page", dvi.document([]), [])
+    prints("a page of rules", dvi.RULE, [(1, b"1 w\n3 1 v\n")])
+    prints("another resolution", dvi.RULE, [(1, b"1 w\n6 1 v\n")], dpi=600)
+    # 65536 * 72.27 units are an inch, 300 pixels
+    inch, pixel = 4736287, 15788
+    moves = dvi.PUSH + dvi.right(inch) + dvi.down(inch) + dvi.put_rule(pixel, pixel) + dvi.POP + dvi.put_rule(pixel, pixel)
+    prints(
+        "pushes, moves and several pages",
+        dvi.document([(7, moves), (-3, b""), (2, dvi.down(-inch) + dvi.put_rule(1, 1))]),
+        [(7, b"300 300 a\n2 2 v\n0 0 a\n2 2 v\n"), (-3, b""), (2, b"-300 x\n1 1 v\n")],
+    )
+    prints("a thousand pushes", dvi.document([(1, dvi.PUSH * 1000 + dvi.POP * 1000)]), [(1, b"")])
+    refused("one push more", dvi.document([(1, dvi.PUSH * 1001 + dvi.POP * 1001)]), 1, b"StackDeep page 1060")
+    refused("a pop without a push", dvi.document([(1, dvi.POP)]), 1, b"StackUnder page 60")
+    refused("a push left open", dvi.document([(1, dvi.PUSH)]), 1, b"StackLeft page 61")
+    refused("a far move", dvi.document([(1, dvi.right(2**31 - 1) + dvi.right(1))]), 1, b"Overflow page 65")
+    refused("a large rule", dvi.document([(1, dvi.put_rule(-(2**31), 1))]), 1, b"Overflow page 60")
+    special = b"\xef\x05hello"
+    prints("a special", dvi.document([(1, special + dvi.RULES)]), [(1, b"1 w\n3 1 v\n")])
+    many = dvi.document([(n % 1000, dvi.put_rule(pixel, pixel)) for n in range(10_000)])
+    prints("ten thousand pages", many, [(n % 1000, b"2 2 v\n") for n in range(10_000)])
+    wide = dvi.document([(1, (dvi.put_rule(pixel, pixel) + b"\x8f\x7f") * 60_000)])
+    with Folder(in_dvi=wide) as folder:
+        status, out, said = folder.run("dvips", "-D", "300", "-o", "-", "in")
+        check("sixty thousand rules", (status, out.count(b" v\n"), said), (0, 60_000, b""))
+
+
+def moves():
+    """Each form of a move, on a page of its own: where the pixel behind it stands."""
+    scale = Fraction(25400000 * 1000 * 300, 254000 * 1000 * 473628672)
+    nearest = lambda units: (abs(units) * scale + Fraction(1, 2)).__floor__() * (-1 if units < 0 else 1)
+    amounts = {1: [127, -128], 2: [32767, -32768, 7894], 3: [8388607, -8388608, 23682], 4: [100000000, -100000001, 5]}
+    pages = []
+    for first, again, across in [(143, None, True), (148, 147, True), (153, 152, True), (157, None, False), (162, 161, False), (167, 166, False)]:
+        for size, values in amounts.items():
+            for value in values:
+                times = 2 if again else 1
+                commands = bytes([first + size - 1]) + dvi.number(value, size) + (bytes([again]) if again else b"")
+                place = nearest(value * times)
+                way = b"%d %s\n" % (place, b"w" if across else b"x") if place else b""
+                pages.append((1, commands + dvi.put_rule(1, 1), way + b"1 1 v\n"))
+    prints("each form of a move", dvi.document([page[:2] for page in pages]), [(page[0], page[2]) for page in pages])
+    none = b"".join(dvi.put_rule(a, b) for a, b in [(0, 1), (1, 0), (-1, 1), (1, -1), (-5, -5), (0, 0)])
+    prints("rules without ink", dvi.document([(1, none + dvi.set_rule(0, 0) + dvi.set_rule(-3, -15788))]), [(1, b"")])
+
+
+def main():
+    if not os.path.exists(PROGRAM):
+        print(f"tests/run: {PROGRAM} is not there; run rt ci first")
+        return 1
+    for part in (files_and_streams, words, inputs, documents, pages, moves):
+        part()
+    print(f"{passed} passed, {failed} failed")
+    return 1 if failed else 0
+
+
+if __name__ == "__main__":
+    sys.exit(main())
