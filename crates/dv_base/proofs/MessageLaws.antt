@@ -1,10 +1,12 @@
 -- One message more behind those that are kept.
-use Rattle.std.proofs.Common.{◌≡◌, ℕ, ◌+◌, Bool, true, false, arith, List, [], ◌∷◌, ◌++◌, length, take, drop, sym, ap, ◌∙◌, append_assoc, length-append, length-drop}
+use Rattle.std.proofs.Common.{◌≡◌, ℕ, ◌+◌, Bool, true, false, arith, List, [], ◌∷◌, ◌++◌, length, take, drop, sym, ap, ◌∙◌, append_assoc, length-append, length-drop, nat_lt, Some, refl, ◌<◌, ◌≤◌, ◌-◌}
 use Rattle.std.proofs.lemmas.List.{append-nil, take-append-le, drop-append-le}
 use Rattle.std.proofs.Math.Seq.{take-append_seam}
 use Rattle.dv_base.specs.Messages.{texts_of, lines_of, room_of}
 use Rattle.dv_base.specs.Tray.{WhereTold, AddsMessage}
-use Rattle.dv_base.specs.MemTray.{messages_of}
+use Rattle.std.proofs.lemmas.Bool.{cond-false}
+use Rattle.std.proofs.lemmas.Bool.Decides.{nat_tests}
+use Rattle.dv_base.specs.MemTray.{messages_of, messages_after}
 
 -- a text behind bytes, and a line end behind it
 abbrev pub ended : List ℕ → List ℕ → List ℕ
@@ -60,3 +62,11 @@ pub messages_more : (lost : Bool) (ns bs t ns' bs' : List ℕ) → Appended ns b
     → WhereTold (AddsMessage t) (messages_of lost (texts_of ns bs)) (messages_of lost (texts_of ns' bs'))
 messages_more true ns bs t ns' bs' h room = tt
 messages_more false ns bs t ns' bs' h room = rw (h.lengths, h.bytes) (texts_of-append ns bs t room)
+
+-- a message that fits is told
+pub messages_fit : (lost : Bool) (ns bs t ns' bs' : List ℕ) (room : ℕ) → Appended ns bs t ns' bs' → room_of ns ≡ length bs → lines_of (texts_of ns bs) ≡ bs
+    → length t < room - length bs → messages_of lost (texts_of ns' bs') ≡ messages_after room t (messages_of lost (texts_of ns bs))
+messages_fit true ns bs t ns' bs' room h cut lines fits = refl
+messages_fit false ns bs t ns' bs' room h cut lines fits =
+    let size : length (lines_of (texts_of ns bs)) ≡ length bs = ap length lines in
+    ap Some (messages_more false ns bs t ns' bs' h cut) ∙ sym (cond-false (nat_lt room (length (lines_of (texts_of ns bs)) + length t + 1)) _ _ (grind (arith, nat_tests)))

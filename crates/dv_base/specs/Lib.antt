@@ -1,5 +1,6 @@
 pub mod Causes
 pub mod FileName
+pub mod FontName
 pub mod Shelf
 pub mod MemShelf
 pub mod Tray

@@ -1,10 +1,10 @@
 -- What a tray in memory has taken.
-use Rattle.std.specs.Prelude.{◌≡◌, ℕ, ◌+◌, ◌-◌, ◌^◌, min, List, [], ◌∷◌, length, Option, Some, None, Bool, true, false, if◌then◌else◌, nat_lt, ◌==◌}
+use Rattle.std.specs.Prelude.{◌≡◌, ℕ, ◌+◌, ◌-◌, ◌^◌, min, List, [], ◌∷◌, length, Option, Some, None, Bool, true, false, if◌then◌else◌, nat_lt, ◌==◌, ◌++◌}
 use Rattle.std.specs.List.{list_any}
 use Rattle.std.specs.String.{string_bytes}
 use Rattle.std.specs.Option.{option_map}
 use Rattle.dv_base.specs.Tray.{Seen, Output}
-use Rattle.dv_base.specs.Messages.{texts_of}
+use Rattle.dv_base.specs.Messages.{texts_of, lines_of}
 use Rattle.dv_base.specs.declared.tray.Begun.{Begun}
 use Rattle.dv_base.specs.declared.tray.Begun.TheVariants as begun
 use Rattle.dv_base.specs.declared.tray.Put.{Put}
@@ -71,3 +71,23 @@ answer_of plan taken length =
 abbrev pub IsSecond : Option (List ℕ) → Begun → Type 0
 IsSecond None answer = answer ≡ begun.Failed → ⊥
 IsSecond (Some name) answer = answer ≡ begun.Failed
+
+-- one write more was answered, and nothing else of the plan changed
+abbrev pub AnswersWrite : Planned → Planned → Type 0
+AnswersWrite old new = new ≡ record old { writes = next_write old }
+
+-- a fault comes with the answer Failed, and with no other
+abbrev pub IsBeginFault : Begun → ℕ → ℕ → Type 0
+IsBeginFault begun.Ready before now = now ≡ before
+IsBeginFault begun.OutOfMemory before now = now ≡ before
+IsBeginFault begun.Failed before now = now ≡ min (before + 1) (2 ^ 64 - 1)
+
+abbrev pub IsWriteFault : Put → ℕ → ℕ → Type 0
+IsWriteFault (put.Took n) before now = now ≡ before
+IsWriteFault put.Failed before now = now ≡ min (before + 1) (2 ^ 64 - 1)
+
+-- What is told of the messages once one more was said: it is the last of them where there is room for it and its line end; else it is
+-- lost, and from then on nothing is told of them.
+abbrev pub messages_after : ℕ → List ℕ → Option (List (List ℕ)) → Option (List (List ℕ))
+messages_after room text None = None
+messages_after room text (Some texts) = if nat_lt room (length (lines_of texts) + length text + 1) then None else Some (texts ++ text ∷ [])

@@ -49,3 +49,11 @@ pub record Keeps (old new : Told) : Type 0 where
   pub faults_later : old.faults ≤ new.faults
   pub absents_later : old.absents ≤ new.absents
   pub overs_later : old.overs ≤ new.overs
+
+-- only the count of what the answer says has moved
+abbrev pub CountsBy : Got → Told → Told → Type 0
+CountsBy (got.Bytes bytes) old new = (new.faults ≡ old.faults) × (new.absents ≡ old.absents) × (new.overs ≡ old.overs)
+CountsBy got.Absent old new = (new.faults ≡ old.faults) × (new.overs ≡ old.overs)
+CountsBy got.TooLong old new = (new.faults ≡ old.faults) × (new.absents ≡ old.absents)
+CountsBy got.Failed old new = (new.absents ≡ old.absents) × (new.overs ≡ old.overs)
+CountsBy got.OutOfMemory old new = (new.faults ≡ old.faults) × (new.absents ≡ old.absents) × (new.overs ≡ old.overs)

@@ -47,16 +47,16 @@ AppendsFront text old new = (n : ℕ) × (n ≤ length text) × Appends (take n 
 abbrev pub BeginGives : List ℕ → Begun → Seen → Seen → Type 0
 BeginGives name begun.Ready old new =
     WhereTold (Begins name) old.outputs new.outputs
-    × (new.begun ≡ min (old.begun + 1) (2 ^ 64 - 1)) × (new.last ≡ Some name) × (old.faults ≤ new.faults)
+    × (new.begun ≡ min (old.begun + 1) (2 ^ 64 - 1)) × (new.last ≡ Some name) × (new.faults ≡ old.faults)
 BeginGives name begun.Failed old new =
     Rose old.faults new.faults × (new.outputs ≡ old.outputs) × (new.begun ≡ old.begun) × (new.last ≡ old.last)
 BeginGives name begun.OutOfMemory old new =
-    (new.outputs ≡ old.outputs) × (new.begun ≡ old.begun) × (new.last ≡ old.last) × (old.faults ≤ new.faults)
+    (new.outputs ≡ old.outputs) × (new.begun ≡ old.begun) × (new.last ≡ old.last) × (new.faults ≡ old.faults)
 
 -- What `write` leaves, by its answer.
 abbrev pub WriteGives : List ℕ → Put → Seen → Seen → Type 0
 WriteGives piece (put.Took n) old new =
-    (min 1 (length piece) ≤ n) × (n ≤ length piece) × WhereTold (Appends (take n piece)) old.outputs new.outputs
+    (min 1 (length piece) ≤ n) × (n ≤ length piece) × WhereTold (Appends (take n piece)) old.outputs new.outputs × (new.faults ≡ old.faults)
 WriteGives piece put.Failed old new = Rose old.faults new.faults × (new.outputs ≡ old.outputs)
 
 -- what no `write` changes, nor any number of them

@@ -26,6 +26,7 @@ impl<'a> Model for Cursor<'a> {
     ghost invariant = { λ c. c.taken ≤ length c.bytes.now };
 }
 
+#[tactic(auto, unfolding(crate::specs::Numbers::unsigned, crate::specs::Numbers::signed))]
 impl<'a> Cursor<'a> {
     /// A cursor before the first of these bytes.
     pub fn new(bytes: &'a [u8]) -> Cursor<'a>
@@ -57,7 +58,7 @@ impl<'a> Cursor<'a> {
 
     /// Takes an unsigned number of one byte.
     pub fn u8(&mut self) -> Option<u8>
-        ensures { Takes (λ bytes x. x ≡ unsigned 1 bytes) 1 self.old self.new result }
+        ensures { Takes (λ bytes x. x ≡ unsigned 0 1 bytes) 1 self.old self.new result }
     {
         let piece = self.take(1)?;
         Some(piece[0])
@@ -65,7 +66,7 @@ impl<'a> Cursor<'a> {
 
     /// Takes an unsigned number of two bytes.
     pub fn u16(&mut self) -> Option<u16>
-        ensures { Takes (λ bytes x. x ≡ unsigned 2 bytes) 2 self.old self.new result }
+        ensures { Takes (λ bytes x. x ≡ unsigned 0 2 bytes) 2 self.old self.new result }
     {
         let piece = self.take(2)?;
         Some(BigEndian::read_u16(piece))
@@ -73,7 +74,7 @@ impl<'a> Cursor<'a> {
 
     /// Takes an unsigned number of three bytes.
     pub fn u24(&mut self) -> Option<u32>
-        ensures { Takes (λ bytes x. x ≡ unsigned 3 bytes) 3 self.old self.new result }
+        ensures { Takes (λ bytes x. x ≡ unsigned 0 3 bytes) 3 self.old self.new result }
     {
         let piece = self.take(3)?;
         Some(BigEndian::read_u24(piece))
@@ -81,7 +82,7 @@ impl<'a> Cursor<'a> {
 
     /// Takes an unsigned number of four bytes.
     pub fn u32(&mut self) -> Option<u32>
-        ensures { Takes (λ bytes x. x ≡ unsigned 4 bytes) 4 self.old self.new result }
+        ensures { Takes (λ bytes x. x ≡ unsigned 0 4 bytes) 4 self.old self.new result }
     {
         let piece = self.take(4)?;
         Some(BigEndian::read_u32(piece))
@@ -89,7 +90,7 @@ impl<'a> Cursor<'a> {
 
     /// Takes a signed number of one byte.
     pub fn i8(&mut self) -> Option<i8>
-        ensures { Takes (λ bytes x. x ≡ signed 1 bytes) 1 self.old self.new result }
+        ensures { Takes (λ bytes x. x ≡ signed 0 1 bytes) 1 self.old self.new result }
     {
         let number = self.u8()?;
         Some(number.cast_signed())
@@ -97,7 +98,7 @@ impl<'a> Cursor<'a> {
 
     /// Takes a signed number of two bytes.
     pub fn i16(&mut self) -> Option<i16>
-        ensures { Takes (λ bytes x. x ≡ signed 2 bytes) 2 self.old self.new result }
+        ensures { Takes (λ bytes x. x ≡ signed 0 2 bytes) 2 self.old self.new result }
     {
         let number = self.u16()?;
         Some(number.cast_signed())
@@ -105,7 +106,7 @@ impl<'a> Cursor<'a> {
 
     /// Takes a signed number of three bytes.
     pub fn i24(&mut self) -> Option<i32>
-        ensures { Takes (λ bytes x. x ≡ signed 3 bytes) 3 self.old self.new result }
+        ensures { Takes (λ bytes x. x ≡ signed 0 3 bytes) 3 self.old self.new result }
     {
         let piece = self.take(3)?;
         Some(BigEndian::read_i24(piece))
@@ -113,7 +114,7 @@ impl<'a> Cursor<'a> {
 
     /// Takes a signed number of four bytes.
     pub fn i32(&mut self) -> Option<i32>
-        ensures { Takes (λ bytes x. x ≡ signed 4 bytes) 4 self.old self.new result }
+        ensures { Takes (λ bytes x. x ≡ signed 0 4 bytes) 4 self.old self.new result }
     {
         let number = self.u32()?;
         Some(number.cast_signed())

@@ -11,6 +11,7 @@ mod line;
 mod mem_shelf;
 mod mem_tray;
 mod name;
+mod number;
 #[cfg(test)]
 mod number_tests;
 mod shelf;
@@ -29,7 +30,8 @@ pub use font_id::{FontId, Spot};
 pub use line::Line;
 pub use mem_shelf::MemShelf;
 pub use mem_tray::MemTray;
-pub use name::FileName;
+pub use name::{FileName, font_name};
+pub use number::{signed, unsigned};
 pub use shelf::{Got, Shelf};
 pub use site::Site;
 pub use tray::{Begun, Put, Tray, WriteFault, write_all};

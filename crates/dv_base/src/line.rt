@@ -29,6 +29,13 @@ impl Line {
         }
     }
 
+    /// Lets go of the bytes: the line begins anew.
+    pub fn clear(&mut self)
+        ensures { self.new ≡ [] }
+    {
+        self.bytes.clear();
+    }
+
     /// Appends a text.
     pub fn text(&mut self, text: &[u8])
         requires { length self.old + length text.now ≤ 1024 }

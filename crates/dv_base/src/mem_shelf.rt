@@ -82,7 +82,7 @@ impl MemShelf {
 }
 
 impl Shelf for MemShelf {
-    ghost use Rattle.dv_base.specs.Shelf.{GetGives, Keeps};
+    ghost use Rattle.dv_base.specs.Shelf.{CountsBy, GetGives, Keeps};
     ghost use Rattle.dv_base.specs.MemShelf.{FailsAsPlanned, Answers, planned_of, told_of};
 
     ghost told = { told_of };
@@ -90,6 +90,7 @@ impl Shelf for MemShelf {
     fn get(&mut self, alloc: Global, name: &str, limit: u32) -> Got
         ensures gives { GetGives name.now limit result (told_of self.old) (told_of self.new) }
         ensures keeps { Keeps (told_of self.old) (told_of self.new) }
+        ensures others { CountsBy result (told_of self.old) (told_of self.new) }
 
         // It fails at the calls that were named, and at no other.
         ensures fails { FailsAsPlanned (planned_of self.old) result (told_of self.old) (told_of self.new) }

@@ -130,15 +130,18 @@ impl MemTray {
 }
 
 impl Tray for MemTray {
-    ghost use Rattle.dv_base.specs.Tray.{BeginGives, KeepsNames, WriteGives};
-    ghost use Rattle.dv_base.specs.MemTray.{IsSecond, answer_of, bytes_of, name_of, planned_of, seen_of};
+    ghost use Rattle.dv_base.specs.Tray.{BeginGives, KeepsNames, Says, WriteGives};
+    ghost use Rattle.dv_base.specs.MemTray.{AnswersWrite, IsBeginFault, IsSecond, IsWriteFault, answer_of, bytes_of, messages_after, name_of, planned_of, seen_of};
 
     ghost seen = { seen_of };
 
     fn begin(&mut self, alloc: Global, name: &str) -> Begun
         ensures gives { BeginGives name.now result (seen_of self.old) (seen_of self.new) }
         ensures messages { (seen_of self.new).messages ≡ (seen_of self.old).messages }
+        ensures later { (seen_of self.old).faults ≤ (seen_of self.new).faults }
         ensures second { IsSecond (name_of self.old) result }
+        ensures plan { planned_of self.new ≡ planned_of self.old }
+        ensures faults { IsBeginFault result (seen_of self.old).faults (seen_of self.new).faults }
     {
         if self.name.is_some() {
             self.faults = self.faults.saturating_add(1);
@@ -158,6 +161,8 @@ impl Tray for MemTray {
         ensures gives { WriteGives piece.now result (seen_of self.old) (seen_of self.new) }
         ensures keeps { KeepsNames (seen_of self.old) (seen_of self.new) }
         ensures answer { result ≡ answer_of (planned_of self.old) (length (bytes_of self.old)) (length piece.now) }
+        ensures plan { AnswersWrite (planned_of self.old) (planned_of self.new) }
+        ensures faults { IsWriteFault result (seen_of self.old).faults (seen_of self.new).faults }
     {
         self.writes = self.writes.saturating_add(1);
         let taken = piece.len().min(self.chunk);
@@ -169,7 +174,11 @@ impl Tray for MemTray {
         Put::Took(taken)
     }
 
-    fn say(&mut self, text: &[u8]) {
+    fn say(&mut self, text: &[u8])
+        ensures says { Says text.now (seen_of self.old) (seen_of self.new) }
+        ensures messages { (seen_of self.new).messages ≡ messages_after (planned_of self.old).says text.now (seen_of self.old).messages }
+        ensures plan { planned_of self.new ≡ planned_of self.old }
+    {
         if self.says - self.said.len() <= text.len() {
             self.is_lost = true;
             return;

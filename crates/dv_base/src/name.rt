@@ -1,6 +1,7 @@
-//! Names of files.
+//! Names of files, and of fonts.
 ghost use Rattle.std.specs.Prelude.{◌≡◌, ◌<◌, ◌≤◌, length, IsTrue, ◌↔◌, MatchOption};
 ghost use Rattle.dv_base.specs.FileName.{text_of};
+ghost use Rattle.dv_base.specs.FontName.{IsFontName, IsNameByte};
 
 use arrayvec::ArrayString;
 
@@ -9,7 +10,7 @@ use arrayvec::ArrayString;
 /// It is kept in place, so that a fault can carry a name and need no memory.
 #[derive(Clone, Copy, PartialEq, Eq, Hash, Drop)]
 pub struct FileName {
-    text: ArrayString<540>,
+    text: ArrayString<{ FileName::LONGEST }>,
 }
 
 impl FileName {
@@ -32,5 +33,34 @@ impl FileName {
         ensures fits { length result.now ≤ 540 }
     {
         self.text.as_str()
+    }
+}
+
+/// The longest name of a font, in bytes.
+const LONGEST_FONT: usize = 255;
+
+/// Whether a byte may stand in a font's name: a visible ASCII character other than `/`.
+fn is_name_byte(byte: u8) -> bool
+    ensures { IsTrue result ↔ IsNameByte byte }
+{
+    33 <= byte && byte <= 126 && byte != b'/'
+}
+
+/// A font's name, its area included, as a text; `None` exactly where no font may have this name: it is to have 1 to 255 bytes, each
+/// a visible ASCII character other than `/`, since it becomes the name of a file.
+pub fn font_name(name: &[u8]) -> Option<FileName>
+    ensures { MatchOption result (IsFontName name.now → ⊥) (λ text. IsFontName name.now × (text_of text ≡ name.now)) }
+{
+    if name.is_empty() || name.len() > LONGEST_FONT {
+        return None;
+    }
+    for byte in name {
+        if !is_name_byte(*byte) {
+            return None;
+        }
+    }
+    match str::from_utf8(name) {
+        Ok(text) => FileName::new(text),
+        Err(_) => unreachable!(),
     }
 }

@@ -1,5 +1,5 @@
 //! Where files come from.
-ghost use Rattle.dv_base.specs.Shelf.{GetGives, Keeps, Told};
+ghost use Rattle.dv_base.specs.Shelf.{CountsBy, GetGives, Keeps, Told};
 
 use std::alloc::Global;
 
@@ -27,5 +27,6 @@ pub trait Shelf {
     /// Reads the whole file of that name, of at most `limit` bytes.
     fn get(&mut self, alloc: Global, name: &str, limit: u32) -> Got
         ensures gives { GetGives name.now limit result (told self.old) (told self.new) }
-        ensures keeps { Keeps (told self.old) (told self.new) };
+        ensures keeps { Keeps (told self.old) (told self.new) }
+        ensures others { CountsBy result (told self.old) (told self.new) };
 }

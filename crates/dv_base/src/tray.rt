@@ -1,5 +1,5 @@
 //! Where outputs and messages go.
-ghost use Rattle.std.specs.Prelude.{◌≡◌, ◌<◌, OnErr, OnOk};
+ghost use Rattle.std.specs.Prelude.{◌≡◌, ◌<◌, ◌≤◌, OnErr, OnOk};
 ghost use Rattle.dv_base.specs.Causes.{Rose};
 ghost use Rattle.dv_base.specs.Tray.{Appends, AppendsFront, BeginGives, KeepsNames, Says, Seen, WhereTold, WriteGives};
 
@@ -37,7 +37,8 @@ pub trait Tray {
     /// Begins an output of that name.
     fn begin(&mut self, alloc: Global, name: &str) -> Begun
         ensures gives { BeginGives name.now result (seen self.old) (seen self.new) }
-        ensures messages { (seen self.new).messages ≡ (seen self.old).messages };
+        ensures messages { (seen self.new).messages ≡ (seen self.old).messages }
+        ensures later { (seen self.old).faults ≤ (seen self.new).faults };
 
     /// Appends bytes to the output that was begun last.
     fn write(&mut self, piece: &[u8]) -> Put

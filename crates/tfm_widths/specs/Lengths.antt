@@ -1,11 +1,11 @@
 -- The lengths at the start of a TFM file (TFM format): twelve halfwords, from which the places of its tables follow. A word has
 -- four bytes.
-use Rattle.std.specs.Prelude.{◌≡◌, ℕ, ◌+◌, ◌-◌, ◌*◌, ◌^◌, ◌<◌, ◌≤◌, List, drop}
+use Rattle.std.specs.Prelude.{◌≡◌, ℕ, ◌+◌, ◌-◌, ◌*◌, ◌^◌, ◌<◌, ◌≤◌, List}
 use Rattle.dv_base.specs.Numbers.{unsigned}
 
 -- the i-th halfword of the file
 unfoldable pub half : List ℕ → ℕ → ℕ
-half bytes i = unsigned 2 (drop (2 * i) bytes)
+half bytes i = unsigned (2 * i) 2 bytes
 
 -- words of the whole file, and of its header
 abbrev pub lf : List ℕ → ℕ

@@ -1,6 +1,6 @@
 -- The characters of a TFM file and their widths (TFM format): the first byte of a char_info word is an index into the table of
 -- widths, and each width is a fix_word.
-use Rattle.std.specs.Prelude.{◌≡◌, ℕ, ◌+◌, ◌-◌, ◌*◌, ◌<◌, ◌≤◌, ◌⊎◌, ◌==◌, ◌||◌, nat_lt, if◌then◌else◌, ℤ, List, length, drop, map, slice_index, slice_index_or, Option, Some, None}
+use Rattle.std.specs.Prelude.{◌≡◌, ℕ, ◌+◌, ◌-◌, ◌*◌, ◌<◌, ◌≤◌, ◌⊎◌, ◌==◌, ◌||◌, nat_lt, if◌then◌else◌, ℤ, List, length, map, slice_index, slice_index_or, Option, Some, None}
 use Rattle.std.specs.List.{range_with_len}
 use Rattle.dv_base.specs.Numbers.{unsigned, signed}
 use Rattle.tfm_widths.specs.Lengths.{lf, lh, bc, ec, nw, AreLengths}
@@ -21,7 +21,7 @@ abbrev pub width_byte : List ℕ → ℕ → ℕ
 width_byte bytes i = slice_index bytes (widths_at bytes + 4 * i)
 
 abbrev pub fix_word : List ℕ → ℕ → ℤ
-fix_word bytes i = signed 4 (drop (widths_at bytes + 4 * i) bytes)
+fix_word bytes i = signed (widths_at bytes + 4 * i) 4 bytes
 
 -- the width of a code: none where it is outside bc to ec, or where its index is 0
 unfoldable pub width_of : List ℕ → ℕ → Option ℤ
@@ -50,15 +50,28 @@ IsIndexed bytes code = index_of bytes code < nw bytes
 abbrev pub IsWidth : List ℕ → ℕ → Type 0
 IsWidth bytes i = (width_byte bytes i ≡ 0) ⊎ (width_byte bytes i ≡ 255)
 
+-- The lengths are right, and the bytes hold what they say.
+pub record IsWhole (bytes : List ℕ) : Type 0 where
+  pub lengths : AreLengths bytes
+  pub some : 24 ≤ length bytes
+  pub all : 4 * lf bytes ≤ length bytes
+
+-- Every code before this one has its index.
+abbrev pub AreIndexed : List ℕ → ℕ → Type 0
+AreIndexed bytes past = (code : ℕ) → code < past → bc bytes ≤ code → IsIndexed bytes code
+
+-- The first widths, up to this number of them, are right.
+abbrev pub AreWidths : List ℕ → ℕ → Type 0
+AreWidths bytes count = (i : ℕ) → i < count → IsWidth bytes i
+
 -- The bytes are a TFM file. What follows the first 4 · lf of them is ignored, and so are the tables behind the widths.
 pub record IsSound (bytes : List ℕ) : Type 0 where
-  pub lengths : AreLengths bytes
-  pub whole : 24 ≤ length bytes × 4 * lf bytes ≤ length bytes
-  pub indices : (code : ℕ) → code < ec bytes + 1 → bc bytes ≤ code → IsIndexed bytes code
-  pub widths : (i : ℕ) → i < nw bytes → IsWidth bytes i
+  pub whole : IsWhole bytes
+  pub indices : AreIndexed bytes (ec bytes + 1)
+  pub widths : AreWidths bytes (nw bytes)
 
 -- The bytes are a TFM file that says this.
 pub record IsTfm (bytes : List ℕ) (table : Table) : Type 0 where
   pub sound : IsSound bytes
-  pub checksum : table.checksum ≡ unsigned 4 (drop 24 bytes)
+  pub checksum : table.checksum ≡ unsigned 24 4 bytes
   pub widths : table.widths ≡ widths_below bytes 256

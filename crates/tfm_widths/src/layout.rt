@@ -1,13 +1,12 @@
 //! Where the tables of a TFM file stand.
 ghost use Rattle.std.specs.Prelude.{◌≡◌, ℕ, ◌+◌, ◌*◌, ◌^◌, ◌<◌, ◌≤◌, OnOk, ◌↔◌, IsTrue, length, drop, slice_index, IfOk, IfErr};
-ghost use Rattle.dv_base.specs.Numbers.{signed};
 ghost use Rattle.tfm_widths.specs.Lengths.{half, further, AreLengths, lf, bc, ec, nw};
-ghost use Rattle.tfm_widths.specs.Widths.{index_of, width_byte, width_of, fix_word};
+ghost use Rattle.tfm_widths.specs.Widths.{index_of, width_byte, width_of, fix_word, IsWhole, AreIndexed, AreWidths};
 ghost use Rattle.tfm_widths.specs.Layout.{IsLayout};
-ghost use Rattle.tfm_widths.specs.Faults.{FaultIn, IsWhole, AreIndexed, AreWidths};
+ghost use Rattle.tfm_widths.specs.Faults.{FaultIn};
 
 use crate::fault::TfmFault;
-use byteorder::{BigEndian, ByteOrder};
+use dv_base::{signed, unsigned};
 
 /// The places and sizes of the tables that are read.
 #[derive(Clone, Copy, Drop)]
@@ -31,15 +30,7 @@ fn half(bytes: &[u8], i: usize) -> usize
     ensures value { result ≡ half bytes.now i }
     ensures bound { result < 2 ^ 16 }
 {
-    usize::from(BigEndian::read_u16(&bytes[2 * i..]))
-}
-
-/// The signed number of four bytes at this place.
-fn signed_word(bytes: &[u8], at: usize) -> i32
-    requires { at + 4 ≤ length bytes.now }
-    ensures { result ≡ signed 4 (drop at bytes.now) }
-{
-    BigEndian::read_u32(&bytes[at..]).cast_signed()
+    unsigned(bytes, 2 * i, 2) as usize
 }
 
 /// The number of words behind the widths.
@@ -171,7 +162,7 @@ impl Layout {
         }
         match self.index(bytes, code) {
             0 => None,
-            index => Some(signed_word(bytes, self.widths + 4 * index)),
+            index => Some(signed(bytes, self.widths + 4 * index, 4)),
         }
     }
 }

@@ -1,13 +1,13 @@
 //! The widths that a TFM file tells.
 ghost use Rattle.std.specs.Prelude.{◌≡◌, ◌+◌, ◌<◌, ◌≤◌, length, IfOk, IfErr};
-ghost use Rattle.tfm_widths.specs.Widths.{Table, IsTfm, width_in, widths_below};
+ghost use Rattle.tfm_widths.specs.Widths.{Table, IsTfm, AreIndexed, width_in, widths_below};
 ghost use Rattle.tfm_widths.specs.Lengths.{ec};
 ghost use Rattle.tfm_widths.specs.Layout.{IsLayout};
-ghost use Rattle.tfm_widths.specs.Faults.{FaultIn, IsOfBytes, AreIndexed};
+ghost use Rattle.tfm_widths.specs.Faults.{FaultIn, IsOfBytes};
 
 use crate::fault::TfmFault;
 use crate::layout::Layout;
-use byteorder::{BigEndian, ByteOrder};
+use dv_base::unsigned;
 use std::alloc::{AllocError, Global};
 use std::marker::Model;
 
@@ -60,7 +60,7 @@ impl Tfm {
         layout.check_indices(bytes)?;
         layout.check_widths(bytes)?;
         let widths = widths_of(alloc, bytes, &layout).map_err(|_| TfmFault::OutOfMemory)?;
-        let checksum = BigEndian::read_u32(&bytes[24..]);
+        let checksum = unsigned(bytes, 24, 4);
         Ok(Tfm { checksum, widths })
     }
 

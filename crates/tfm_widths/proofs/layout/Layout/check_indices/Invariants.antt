@@ -1,4 +1,4 @@
-use Rattle.tfm_widths.specs.Faults.{AreIndexed}
+use Rattle.tfm_widths.specs.Widths.{AreIndexed}
 use Rattle.tfm_widths.proofs.layout.Layout.check_indices.Given as goal
 
 abbrev pub invariant-loop-code : goal.invariant-loop-code
