@@ -12,25 +12,25 @@ abbrev pub kept : ℕ → ℕ → Fraction
 kept t b = record { top = t; bottom = b }
 
 pub kept-fine : (t b : ℕ) → IsKept t b → IsFine (kept t b)
-kept-fine t b k = record { positive = k.positive; fine = k.fine }
+kept-fine t b k = k.fine
 
 half_up-fits : (f : Fraction) → IsFine f → (a : ℕ) → a < 2 ^ 40 → half_up f a < 2 ^ 63
 half_up-fits f fine a small = omega (arith, half_up-bound f fine a)
 
 -- The code rounds the size of a negative length, and changes the sign.
-pub round_below : (f : Fraction) → IsFine f → (x : ℤ) (size : ℕ) → unsigned_abs x < 2 ^ 40 → size ≡ unsigned_abs x → x <ℤ pos 0 → to_z w64 (of_z w64 (pos 0 -ℤ to_z w64 (half_up f size))) ≡ rounded f x
+pub round_below : (f : Fraction) → IsFine f → (x : ℤ) (size q : ℕ) → q ≡ half_up f size → unsigned_abs x < 2 ^ 40 → size ≡ unsigned_abs x → x <ℤ pos 0 → to_z w64 (of_z w64 (pos 0 -ℤ to_z w64 q)) ≡ rounded f x
 unfolding rounded
-round_below f fine (pos a) size small is negative = absurd (omega (arith, ints))
-round_below f fine (negsuc a) size small is negative =
+round_below f fine (pos a) size q whole small is negative = absurd (omega (arith, ints))
+round_below f fine (negsuc a) size q whole small is negative =
     let fits : half_up f (suc a) < 2 ^ 63 = half_up-fits f fine (suc a) small in
-    rw is (omega (arith, ints, fits))
+    rw (whole, is) (omega (arith, ints, fits))
 
-pub round_above : (f : Fraction) → IsFine f → (x : ℤ) (size : ℕ) → unsigned_abs x < 2 ^ 40 → size ≡ unsigned_abs x → pos 0 ≤ℤ x → to_z w64 (half_up f size) ≡ rounded f x
+pub round_above : (f : Fraction) → IsFine f → (x : ℤ) (size q : ℕ) → q ≡ half_up f size → unsigned_abs x < 2 ^ 40 → size ≡ unsigned_abs x → pos 0 ≤ℤ x → to_z w64 q ≡ rounded f x
 unfolding rounded
-round_above f fine (pos a) size small is positive =
+round_above f fine (pos a) size q whole small is positive =
     let fits : half_up f a < 2 ^ 63 = half_up-fits f fine a small in
-    rw is (omega (arith, ints, fits))
-round_above f fine (negsuc a) size small is positive = absurd (omega (arith, ints))
+    rw (whole, is) (omega (arith, ints, fits))
+round_above f fine (negsuc a) size q whole small is positive = absurd (omega (arith, ints))
 
 -- what the contract of `round` says, from its value
 abbrev Rounds : Fraction → ℤ → ℤ → Type 0
@@ -52,19 +52,19 @@ ceil_fits_above f fine a small =
     let some : 0 < f.bottom = fine.positive in
     omega (arith, ceiling_bound f.top f.bottom a ((a * f.top + f.bottom - 1) / f.bottom) (2 ^ 31 - 1) (2 ^ 30) some (omega arith) (omega (arith, fine.fine)))
 
-pub ceil_below : (f : Fraction) → IsFine f → (x : ℤ) (size : ℕ) → unsigned_abs x < 2 ^ 40 → size ≡ unsigned_abs x → x <ℤ pos 0 → to_z w64 (of_z w64 (pos 0 -ℤ to_z w64 (size * f.top / f.bottom))) ≡ ceiling f x
+pub ceil_below : (f : Fraction) → IsFine f → (x : ℤ) (size q : ℕ) → q ≡ size * f.top / f.bottom → unsigned_abs x < 2 ^ 40 → size ≡ unsigned_abs x → x <ℤ pos 0 → to_z w64 (of_z w64 (pos 0 -ℤ to_z w64 q)) ≡ ceiling f x
 unfolding ceiling
-ceil_below f fine (pos a) size small is negative = absurd (omega (arith, ints))
-ceil_below f fine (negsuc a) size small is negative =
+ceil_below f fine (pos a) size q whole small is negative = absurd (omega (arith, ints))
+ceil_below f fine (negsuc a) size q whole small is negative =
     let fits : suc a * f.top / f.bottom < 2 ^ 63 = ceil_fits_below f fine (suc a) small in
-    rw is (omega (arith, ints, fits))
+    rw (whole, is) (omega (arith, ints, fits))
 
-pub ceil_above : (f : Fraction) → IsFine f → (x : ℤ) (size : ℕ) → unsigned_abs x < 2 ^ 40 → size ≡ unsigned_abs x → pos 0 ≤ℤ x → to_z w64 ((size * f.top + f.bottom - 1) / f.bottom) ≡ ceiling f x
+pub ceil_above : (f : Fraction) → IsFine f → (x : ℤ) (size q : ℕ) → q ≡ (size * f.top + f.bottom - 1) / f.bottom → unsigned_abs x < 2 ^ 40 → size ≡ unsigned_abs x → pos 0 ≤ℤ x → to_z w64 q ≡ ceiling f x
 unfolding ceiling
-ceil_above f fine (pos a) size small is positive =
+ceil_above f fine (pos a) size q whole small is positive =
     let fits : (a * f.top + f.bottom - 1) / f.bottom < 2 ^ 63 = ceil_fits_above f fine a small in
-    rw is (omega (arith, ints, fits))
-ceil_above f fine (negsuc a) size small is positive = absurd (omega (arith, ints))
+    rw (whole, is) (omega (arith, ints, fits))
+ceil_above f fine (negsuc a) size q whole small is positive = absurd (omega (arith, ints))
 
 abbrev Ceils : Fraction → ℤ → ℤ → Type 0
 Ceils f x r = (r ≡ ceiling f x) × IsCeiling f x r × IsFine f × (unsigned_abs r * (2 ^ 31 - 1) ≤ unsigned_abs x * 2 ^ 30 + (2 ^ 31 - 1))

@@ -1,3 +1,4 @@
 pub mod MessageLaws
 pub mod Conversions
+pub mod Divided
 pub mod Products

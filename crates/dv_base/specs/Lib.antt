@@ -12,6 +12,8 @@ pub mod FileTray
 pub mod Numbers
 pub mod Cursor
 pub mod Rounding
+pub mod Lowest
+pub mod LowestLaws
 pub mod UnitPixels
 pub mod RoundingLaws
 pub mod Scale

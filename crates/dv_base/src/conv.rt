@@ -1,16 +1,18 @@
 //! From units of a DVI file to pixels.
-ghost use Rattle.std.specs.Prelude.{◌≡◌, ◌↔◌, ◌*◌, ◌+◌, ◌-◌, ◌^◌, ◌<◌, ◌≤◌, pos, ◌<ℤ◌, ◌≤ℤ◌, unsigned_abs, IsSome, IfSome, MatchOption};
+ghost use Rattle.std.specs.Prelude.{◌≡◌, ◌↔◌, ◌*◌, ◌+◌, ◌-◌, ◌/◌, ◌^◌, ◌<◌, ◌≤◌, pos, ◌<ℤ◌, ◌≤ℤ◌, unsigned_abs, IsSome, IfSome, MatchOption};
 ghost use Rattle.dv_base.specs.Rounding.{IsNearest, IsCeiling, IsFine, rounded, ceiling};
+ghost use Rattle.dv_base.specs.Lowest.{gcd};
 ghost use Rattle.dv_base.specs.RoundingLaws.{rounded-nearest};
-ghost use Rattle.dv_base.specs.UnitPixels.{pixels_of_one, IsUsable};
+ghost use Rattle.dv_base.specs.UnitPixels.{pixels_of_one, unit_length, IsSameNumber, IsUsable};
 
 use crate::units::Units;
 use std::marker::Model;
 
 /// Turns lengths in DVI units into whole pixels, by exact fractions.
 ///
-/// A length of `x` units is `x · top / bottom` pixels, where `top` is `num · mag · dpi` and `bottom` is `254000 · 1000 · den` (DVI
-/// format, preamble: `num / den` of 10^-7 metres, of which an inch has 254,000, and `mag / 1000`).
+/// A length of `x` units is `x · top / bottom` pixels, where `top / bottom` is `num · mag · dpi / (254000 · 1000 · den)` in lowest
+/// terms (DVI format, preamble: `num / den` of 10^-7 metres, of which an inch has 254,000, and `mag / 1000`). In lowest terms almost
+/// all products fit 64 bits, and their division is several times as fast as that of 128 bits.
 #[derive(Clone, Copy, Debug, PartialEq, Eq, Drop)]
 pub struct Conv {
     top: u128,
@@ -41,6 +43,31 @@ fn positive(number: i64) -> Option<u128>
     }
 }
 
+/// The greatest common divisor, by Euclid's steps.
+fn greatest_divisor(a: u128, b: u128) -> u128
+    ensures { result ≡ gcd a b }
+{
+    let mut greater = a;
+    let mut less = b;
+    while less > 0 {
+        let rest = greater % less;
+        greater = less;
+        less = rest;
+    }
+    greater
+}
+
+/// The whole part of a quotient, divided in 64 bits where both numbers fit.
+fn quotient(above: u128, below: u128) -> u128
+    requires { 0 < below }
+    ensures { result ≡ above / below }
+{
+    match (u64::try_from(above), u64::try_from(below)) {
+        (Ok(above), Ok(below)) => u128::from(above / below),
+        _ => above / below,
+    }
+}
+
 impl Conv {
     /// The conversion of a document's units; `None` exactly where one of them is below 1, or where a unit is so large that
     /// 2^31 - 1 units are 2^30 pixels or more.
@@ -51,11 +78,16 @@ impl Conv {
         requires dpi { units.now.dpi ≤ℤ pos 10000 }
         ensures some { IsSome result ↔ IsUsable units.now }
         ensures value { IfSome result (λ conv. conv ≡ pixels_of_one units.now) }
+        ensures same { IfSome result (λ conv. IsSameNumber conv (unit_length units.now)) }
     {
         let top = positive(units.num)? * positive(units.mag)? * positive(units.dpi)?;
         let bottom = 254_000 * 1_000 * positive(units.den)?;
         if top * 0x7fff_ffff < bottom * 0x4000_0000 {
-            Some(Conv { top, bottom })
+            let divisor = greatest_divisor(top, bottom);
+            Some(Conv {
+                top: top / divisor,
+                bottom: bottom / divisor,
+            })
         } else {
             None
         }
@@ -70,7 +102,7 @@ impl Conv {
         ensures bound { 2 * unsigned_abs result * (2 ^ 31 - 1) ≤ unsigned_abs x * 2 ^ 31 + (2 ^ 31 - 1) }
     {
         let length = u128::from(x.unsigned_abs());
-        let pixels = ((2 * length * self.top + self.bottom) / (2 * self.bottom)) as i64;
+        let pixels = quotient(2 * length * self.top + self.bottom, 2 * self.bottom) as i64;
         if x < 0 { -pixels } else { pixels }
     }
 
@@ -85,9 +117,9 @@ impl Conv {
     {
         let length = u128::from(x.unsigned_abs());
         if x < 0 {
-            -((length * self.top / self.bottom) as i64)
+            -(quotient(length * self.top, self.bottom) as i64)
         } else {
-            ((length * self.top + self.bottom - 1) / self.bottom) as i64
+            quotient(length * self.top + self.bottom - 1, self.bottom) as i64
         }
     }
 }

@@ -119,23 +119,47 @@ fn tray_says(rt: HostRuntime) -> Result<(), Fail> {
 fn files_come_back(rt: HostRuntime) -> Result<(), Fail> {
     let alloc = rt.alloc();
     let name = "dv_base_shelf_tests.out";
+    let long = vec![in alloc; b'x'; 70_000]?;
     let mut tray = FileTray::new(&rt);
     let mut shelf = FileShelf::new(&rt);
-    // An output of a name that is there already takes its place.
-    for text in ["an older text", "a text"] {
+    // An output of a name that is there already takes its place. The second text is longer than what is gathered and than what is
+    // read at once.
+    for text in [&b"an older text"[..], long.as_slice(), &b"a text"[..]] {
         assert_eq!(rt; tray.begin(alloc, name), Begun::Ready);
-        assert!(rt; write_all(&mut tray, text.as_bytes()).is_ok());
+        assert!(rt; write_all(&mut tray, text).is_ok());
+        assert!(rt; tray.finish().is_ok());
+        let got = shelf.get(alloc, name, text.len() as u32);
+        assert!(rt; words(&got) == text, "a text of {} bytes", text.len());
     }
     assert_eq!(rt; tray.begin(alloc, "no/such/folder"), Begun::Failed);
+    let long_name = str::from_utf8(&long[..300])?;
     for (name, limit, wanted) in [
         (name, 6, "a text"),
         (name, 5, "(too long)"),
         ("no/such/folder", 6, "(absent)"),
+        ("", 6, "(absent)"),
         ("..", 6, "(failed)"),
+        ("dv_base_shelf_tests.out/x", 6, "(failed)"),
+        ("nul\0byte", 6, "(failed)"),
+        (long_name, 6, "(failed)"),
     ] {
         let got = shelf.get(alloc, name, limit);
         assert_eq!(rt; words(&got), wanted.as_bytes(), "{name} to {limit}");
     }
     fs::remove_file(&rt, name)?;
+    Ok(())
+}
+
+#[test]
+fn full_device_is_a_fault(rt: HostRuntime) -> Result<(), Fail> {
+    let alloc = rt.alloc();
+    let mut tray = FileTray::new(&rt);
+    assert!(rt; tray.finish().is_ok(), "nothing was begun");
+    // What is written is gathered, so that the failure shows when it is handed on; it is answered once.
+    assert_eq!(rt; tray.begin(alloc, "/dev/full"), Begun::Ready);
+    assert_eq!(rt; tray.write(b"a text"), Put::Took(6));
+    assert!(rt; tray.finish().is_err());
+    assert!(rt; tray.finish().is_ok());
+    assert_eq!(rt; tray.write(b"more"), Put::Failed);
     Ok(())
 }
