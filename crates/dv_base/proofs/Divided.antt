@@ -1,8 +1,8 @@
 -- A fraction whose parts are divided by their greatest common divisor.
-use Rattle.std.proofs.Common.{◌≡◌, ℕ, zero, suc, ◌+◌, ◌*◌, ◌/◌, ◌-◌, ◌^◌, ◌<◌, ◌≤◌, arith, sym, ap, ◌∙◌}
+use Rattle.std.proofs.Common.{◌≡◌, ℕ, zero, suc, ◌*◌, ◌/◌, ◌-◌, ◌^◌, ◌<◌, ◌≤◌, arith, sym, ap, ◌∙◌}
 use Rattle.std.proofs.Math.Nat.{lt_of_mul-lt-mul_right, div-le_self, mul-le-mul}
-use Rattle.dv_base.specs.Lowest.{gcd, lowest}
-use Rattle.dv_base.specs.LowestLaws.{gcd_positive, top_is, bottom_is}
+use Rattle.dv_base.specs.Lowest.{gcd}
+use Rattle.dv_base.specs.LowestLaws.{top_is, bottom_is}
 use Rattle.dv_base.specs.UnitPixels.{IsKept}
 use Rattle.dv_base.proofs.Conversions.{kept}
 

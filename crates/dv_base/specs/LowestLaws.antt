@@ -1,8 +1,8 @@
 -- That `gcd` is the greatest common divisor, and what follows for a fraction in lowest terms.
-use Rattle.std.proofs.Common.{◌≡◌, ℕ, zero, suc, ◌+◌, ◌*◌, ◌/◌, ◌%◌, ◌^◌, ◌<◌, ◌≤◌, arith, refl, ◌-◌}
+use Rattle.std.proofs.Common.{◌≡◌, ℕ, zero, suc, ◌*◌, ◌/◌, ◌%◌, ◌<◌, arith, refl}
 use Rattle.std.specs.Int.{IsGcd}
-use Rattle.std.proofs.lemmas.Nat.Gcd.{IsGcd-from_mod, IsGcd-from_zero, le_of_dvd, same_from_IsGcd}
-use Rattle.std.proofs.Math.Nat.{div-mul_cancel, mul-le-mul_right, mul-le-mul_left, lt_of_mul-lt-mul_right}
+use Rattle.std.proofs.lemmas.Nat.Gcd.{IsGcd-from_mod, IsGcd-from_zero, same_from_IsGcd}
+use Rattle.std.proofs.Math.Nat.{div-mul_cancel}
 use Rattle.dv_base.specs.Rounding.{Fraction}
 use Rattle.dv_base.specs.Lowest.{euclid, gcd, lowest}
 

@@ -57,16 +57,6 @@ fn converts_to_pixels(rt: HostRuntime) {
         assert_eq!(rt; conv.round(x), round, "round {x}");
         assert_eq!(rt; conv.ceil(x), ceil, "ceil {x}");
     }
-    // Products that don't fit 64 bits: 549755813887 units are 216439298.62 pixels.
-    let large = Units {
-        num: 2_147_483_647,
-        den: 2_147_483_629,
-        mag: 1_000,
-        dpi: 100,
-    };
-    let conv = Conv::new(&large).expect(&rt, "large units");
-    assert_eq!(rt; conv.round(549_755_813_887), 216_439_299);
-    assert_eq!(rt; conv.ceil(549_755_813_887), 216_439_299);
     assert!(rt; Conv::new(&Units { den: 1, ..halves }).is_none());
     for units in [
         Units { num: 0, ..TEX },
@@ -99,4 +89,23 @@ fn numbers_fonts(rt: HostRuntime) {
         );
     }
     assert!(rt; FontId::new(1_000).is_none());
+}
+
+#[test]
+fn converts_large_products(rt: HostRuntime) {
+    // Products that don't fit 64 bits: 549755813887 of these units are 216439298.62 pixels.
+    let large = Units {
+        num: 2_147_483_647,
+        den: 2_147_483_629,
+        mag: 1_000,
+        dpi: 100,
+    };
+    let conv = Conv::new(&large).expect(&rt, "large units");
+    for (x, round, ceil) in [
+        (549_755_813_887, 216_439_299, 216_439_299),
+        (-549_755_813_887, -216_439_299, -216_439_298),
+    ] {
+        assert_eq!(rt; conv.round(x), round, "round {x}");
+        assert_eq!(rt; conv.ceil(x), ceil, "ceil {x}");
+    }
 }
