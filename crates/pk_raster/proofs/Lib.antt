@@ -12,9 +12,10 @@ pub mod Positive
 pub mod Ending
 pub mod Pixelwise
 pub mod Wholes
-pub mod Endian
 pub mod Parted
 pub mod Drawn
 pub mod Kept
 pub mod Telling
 pub mod Filed
+pub mod OneRaster
+pub mod OneFont

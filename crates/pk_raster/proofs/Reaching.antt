@@ -101,7 +101,7 @@ module _ (f c0 w h : ℕ) (ns : List ℕ) (at c : ℕ) (b : Board) (r : Reached 
   pub refuse : (e : RasterFault) → FaultIs f w h ns e → ((rest : List (List ℕ)) → length rest ≡ b.left → Left f c w (drop at ns) r.now b.repeat rest → ⊥) → Refuses f c0 w h ns e
   refuse e says none = record { says = says; none = λ ne rows l k. (let a = r.ahead rows l k in none a.0 (rest_rows rows a.0 k a.1) a.2) }
 
-  short_sum : pixels w r.done < h * w
+  pub short_sum : pixels w r.done < h * w
   short_sum =
       let s = r.sum in
       let e : h ≡ length r.made + b.left = omega (arith, r.left) in
@@ -110,7 +110,7 @@ module _ (f c0 w h : ℕ) (ns : List ℕ) (at c : ℕ) (b : Board) (r : Reached 
 
   pub missed : (e : RasterFault) → Misses f (drop at ns) e → Refuses f c0 w h ns e
   missed fault.RunsShort m = refuse fault.RunsShort (r.done, drop at ns, r.spelled, m.0, m.1, short_sum) (λ rest k l. nothing f c w b.repeat (drop at ns) r.now rest (omega (arith, k, room)) part_below l m.0)
-  missed fault.RepeatTwice m = refuse fault.RepeatTwice (r.done, drop at ns, r.spelled, inr m.1) (λ rest k l. nothing f c w b.repeat (drop at ns) r.now rest (omega (arith, k, room)) part_below l m.0)
+  missed fault.RepeatTwice m = refuse fault.RepeatTwice (r.done, drop at ns, r.spelled, inr (short_sum, m.1)) (λ rest k l. nothing f c w b.repeat (drop at ns) r.now rest (omega (arith, k, room)) part_below l m.0)
   missed fault.RunsPast m = absurd m
   missed fault.BadLength m = absurd m
   missed fault.OutOfMemory m = absurd m
@@ -127,7 +127,7 @@ module _ (f c0 w h : ℕ) (ns : List ℕ) (at c : ℕ) (b : Board) (r : Reached 
       alone o = omega (arith, o, gives_zero w (length r.now) n [] part_below, some)
 
       pub twice : 0 < b.repeat → Refuses f c0 w h ns fault.RepeatTwice
-      twice g = refuse fault.RepeatTwice (r.done ++ Repeat n ∷ [], drop to ns, spelled, inl (λ s. alone ((r.single (Repeat n ∷ []) s).1 g)))
+      twice g = refuse fault.RepeatTwice (r.done ++ Repeat n ∷ [], drop to ns, spelled, inl (n, (r.done, refl, short_sum), λ s. alone ((r.single (Repeat n ∷ []) s).1 g)))
           (λ rest k l. (let x = next f c w b.repeat (drop at ns) r.now rest (omega (arith, k, room)) part_below l (Repeat n) (drop to ns) e in
           repeat_twice w c b.repeat n r.now x.items rest part_below g some x.goes))
 
@@ -135,7 +135,7 @@ module _ (f c0 w h : ℕ) (ns : List ℕ) (at c : ℕ) (b : Board) (r : Reached 
       repeat_past z m =
           let q : w * b.left ≤ w * n = mul-le-mul_left w m in
           let t : h * w ≡ (length r.made + b.left) * w = ap (λ k. k * w) (omega (arith, r.left)) in
-          refuse fault.RunsPast (r.done ++ Repeat n ∷ [], drop to ns, spelled, inr (r.done, n, refl, (let s = sum in omega (arith, s, q, t))))
+          refuse fault.RunsPast (r.done ++ Repeat n ∷ [], drop to ns, spelled, inr (n, (r.done, refl, short_sum), (let s = sum in omega (arith, s, q, t))))
           (λ rest k l. (let x = next f c w b.repeat (drop at ns) r.now rest (omega (arith, k, room)) part_below l (Repeat n) (drop to ns) e in
           let G : ℕ → Type 0 = λ g. Goes w c r.now g (Repeat n ∷ x.items) rest in
           let y = repeat_on w c n r.now x.items rest part_below (subst G z x.goes) in

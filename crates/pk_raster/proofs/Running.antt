@@ -14,7 +14,7 @@ use Rattle.pk_raster.specs.Reading.{IsItem, Takes}
 use Rattle.pk_raster.specs.Filling.{Ran, Passes, PastIs}
 use Rattle.pk_raster.specs.Bits.{colour}
 use Rattle.pk_raster.specs.Progress.{Left, Reached, Refuses}
-use Rattle.pk_raster.proofs.Reaching.{Spells-append, spells_one, pixels-append, pixels_run, pixels_none, next, onto, refuse, part_below, rest_rows}
+use Rattle.pk_raster.proofs.Reaching.{Spells-append, spells_one, pixels-append, pixels_run, pixels_none, next, onto, refuse, part_below, rest_rows, short_sum}
 
 -- what a read item is
 pub record Found (f : ℕ) (ns : List ℕ) (at to k : ℕ) (make : ℕ → Item) : Type 0 where
@@ -52,7 +52,7 @@ module _ (f c0 h : ℕ) (ns : List ℕ) (at c : ℕ) (b : Board) (r : Reached f 
   sum = let p = pixels-append b.width r.done (Run n ∷ []) in let q = pixels_run b.width n [] in let z = pixels_none b.width in omega (arith, p, q, z, r.sum)
 
   pub run_long : h * b.width < 2 ^ 40 → 2 ^ 40 ≤ n → Refuses f c0 b.width h ns fault.RunsPast
-  run_long l m = refuse f c0 b.width h ns at c b r room below fault.RunsPast (r.done ++ Run n ∷ [], drop to ns, spelled, inl (let s = sum in omega (arith, s, l, m)))
+  run_long l m = refuse f c0 b.width h ns at c b r room below fault.RunsPast (r.done ++ Run n ∷ [], drop to ns, spelled, inl (n, (r.done, refl, short_sum f c0 b.width h ns at c b r room below), (let s = sum in omega (arith, s, l, m))))
       (λ rest k left. (let x = next f c b.width b.repeat (drop at ns) r.now rest (omega (arith, k, room)) (part_below f c0 b.width h ns at c b r room below) left (Run n) (drop to ns) e in
       let p = pixels_run b.width n x.items in
       let q = x.whole in
@@ -62,7 +62,7 @@ module _ (f c0 h : ℕ) (ns : List ℕ) (at c : ℕ) (b : Board) (r : Reached f 
 
   run_past : Passes c n b r.now → Refuses f c0 b.width h ns fault.RunsPast
   run_past past = refuse f c0 b.width h ns at c b r room below fault.RunsPast
-      (r.done ++ Run n ∷ [], drop to ns, spelled, inl (let s = sum in let t : h * b.width ≡ (length r.made + b.left) * b.width = ap (λ k. k * b.width) (omega (arith, r.left)) in let q = past.sum in omega (arith, s, t, q)))
+      (r.done ++ Run n ∷ [], drop to ns, spelled, inl (n, (r.done, refl, short_sum f c0 b.width h ns at c b r room below), (let s = sum in let t : h * b.width ≡ (length r.made + b.left) * b.width = ap (λ k. k * b.width) (omega (arith, r.left)) in let q = past.sum in omega (arith, s, t, q))))
       (λ rest k left. (let x = next f c b.width b.repeat (drop at ns) r.now rest (omega (arith, k, room)) (part_below f c0 b.width h ns at c b r room below) left (Run n) (drop to ns) e in
       omega (arith, past.none x.items rest x.goes, k)))
 

@@ -22,15 +22,15 @@ with_glyph font code k = record { checksum = font.checksum; glyphs = set font.gl
 
 -- counts of codes
 
-times_here : (code : ℕ) (p : Packet) (ps : List Packet) → p.code ≡ code → times code (p ∷ ps) ≡ 1 + times code ps
+pub times_here : (code : ℕ) (p : Packet) (ps : List Packet) → p.code ≡ code → times code (p ∷ ps) ≡ 1 + times code ps
 unfolding times
 times_here code p ps e = cond-true (nat_eq p.code code) _ _ (grind (arith, nat_tests))
 
-times_other : (code : ℕ) (p : Packet) (ps : List Packet) → p.code ≢ code → times code (p ∷ ps) ≡ times code ps
+pub times_other : (code : ℕ) (p : Packet) (ps : List Packet) → p.code ≢ code → times code (p ∷ ps) ≡ times code ps
 unfolding times
 times_other code p ps e = cond-false (nat_eq p.code code) _ _ (grind (arith, nat_tests))
 
-times_nil : (code : ℕ) → times code [] ≡ 0
+pub times_nil : (code : ℕ) → times code [] ≡ 0
 unfolding times
 times_nil code = refl
 
@@ -117,7 +117,7 @@ empty_wide zero (suc h) (suc n) z l = (refl, empty_wide zero (suc h) n z (omega 
 empty_wide (suc w) (suc h) (suc n) z l = absurd (omega (arith, z))
 
 -- h rows of w pixels are drawn
-drawn_rows : (flag w h : ℕ) (given : List ℕ) (rows : List (List ℕ)) → Draws flag w h given rows → AllByRecursion (λ row. length row ≡ w) rows × (length rows ≡ h)
+pub drawn_rows : (flag w h : ℕ) (given : List ℕ) (rows : List (List ℕ)) → Draws flag w h given rows → AllByRecursion (λ row. length row ≡ w) rows × (length rows ≡ h)
 drawn_rows flag w h given rows d =
     ⊎_elim
     (λ z. (let e = (d.blank z).1 in

@@ -3,7 +3,8 @@ use Rattle.std.specs.Prelude.{◌≡◌, ℕ, List, [], ◌∷◌, ◌+◌, ◌�
 use Rattle.std.specs.List.{AllByRecursion}
 use Rattle.pk_raster.specs.Font.{Font, glyph_at}
 use Rattle.pk_raster.specs.Font.Known.{Nothing}
-use Rattle.pk_raster.specs.Parts.{Packet, Part, Parts, unsigned}
+use Rattle.pk_raster.specs.Parts.{Packet, Part, Parts}
+use Rattle.dv_base.specs.Numbers.{unsigned}
 use Rattle.pk_raster.specs.Parts.Part.{Other, Character}
 use Rattle.pk_raster.specs.Glyph.{IsGlyph}
 

@@ -6,7 +6,8 @@ use Rattle.pk_raster.specs.Numbers.{nybbles}
 use Rattle.pk_raster.specs.Raster.{IsRaster, IsPlain}
 use Rattle.pk_raster.specs.Font.{Known, Bitmap}
 use Rattle.pk_raster.specs.Font.Known.{Large, Bits}
-use Rattle.pk_raster.specs.Parts.{Packet, by_form, unsigned, signed}
+use Rattle.pk_raster.specs.Parts.{Packet, by_form}
+use Rattle.dv_base.specs.Numbers.{unsigned, signed}
 
 -- A size has one, two or four bytes. Before the sizes stand the width and the escapements.
 abbrev pub size_bytes : ℕ → ℕ

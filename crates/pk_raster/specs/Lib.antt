@@ -15,3 +15,4 @@ pub mod GlyphFaults
 pub mod Faults
 pub mod Entries
 pub mod Looks
+pub mod Laws

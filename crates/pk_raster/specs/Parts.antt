@@ -1,15 +1,8 @@
 -- The parts of a PK file's body (T. Rokicki, "Packed (PK) font file format", TUGboat 6:3). Each begins with a flag byte:
 -- 0 to 239 a character, 240 to 243 a special with a length of one to four bytes, 244 a special number of four bytes, 246 a
 -- nop. 245 ends the body, and no part begins with a byte from 247 on.
-use Rattle.std.specs.Prelude.{◌≡◌, ℕ, ℤ, List, [], ◌∷◌, ◌+◌, ◌-◌, ◌*◌, ◌%◌, length, take, drop, nat_lt, nat_eq, if◌then◌else◌, Option, None, Some}
-use Rattle.byteorder.specs.Endian.{big_number, twos_complement}
-
--- The unsigned and the signed number in n bytes from place i on, the most significant byte first.
-unfoldable pub unsigned : ℕ → ℕ → List ℕ → ℕ
-unsigned i n bytes = big_number n (drop i bytes)
-
-unfoldable pub signed : ℕ → ℕ → List ℕ → ℤ
-signed i n bytes = twos_complement n (big_number n (drop i bytes))
+use Rattle.std.specs.Prelude.{◌≡◌, ℕ, List, [], ◌∷◌, ◌+◌, ◌-◌, ◌*◌, ◌%◌, length, take, drop, nat_lt, nat_eq, if◌then◌else◌, Option, None, Some}
+use Rattle.dv_base.specs.Numbers.{unsigned}
 
 -- A character's packet: its flag byte, its code, and the bytes behind the code, which its length counts: sizes and raster.
 pub record Packet : Type 0 where

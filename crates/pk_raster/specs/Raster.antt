@@ -1,7 +1,7 @@
 -- The two rasters of a glyph with pixels, and what stands in one that is refused.
 use Rattle.std.specs.Prelude.{◌≡◌, ℕ, List, [], ◌∷◌, ◌++◌, ◌+◌, ◌*◌, ◌<◌, ◌≤◌, ◌⊎◌, length, None}
 use Rattle.std.specs.List.{concat, AllByRecursion}
-use Rattle.pk_raster.specs.Runs.{Item, Repeat, Single, Makes, pixels}
+use Rattle.pk_raster.specs.Runs.{Item, Run, Repeat, Single, Makes, pixels}
 use Rattle.pk_raster.specs.Items.{item_at, InRepeat, Spells}
 use Rattle.pk_raster.specs.declared.board.RasterFault.{RasterFault}
 use Rattle.pk_raster.specs.declared.board.RasterFault.TheVariants as fault
@@ -25,13 +25,17 @@ pub record IsPlain (w h : ℕ) (given : List ℕ) (rows : List (List ℕ)) : Typ
   pub height : length rows ≡ h
   pub few : length spare < 8
 
--- A base row has two repeats, or one begins inside a repeat.
-abbrev pub IsTwice : ℕ → List Item → List ℕ → Type 0
-IsTwice w items rest = (Single w 0 items → ⊥) ⊎ InRepeat rest
+-- Reading stops once h rows are made. So the last item of these is reached before that.
+abbrev pub Ends : ℕ → ℕ → List Item → Item → Type 0
+Ends w h items last = (before : List Item) × (items ≡ before ++ last ∷ []) × (pixels w before < h * w)
 
--- The items have more pixels than h rows, or a last repeat of a row behind h rows.
+-- With its last repeat a base row has two, or one begins inside a repeat; before the rows are made.
+abbrev pub IsTwice : ℕ → ℕ → List Item → List ℕ → Type 0
+IsTwice w h items rest = ((n : ℕ) × Ends w h items (Repeat n) × (Single w 0 items → ⊥)) ⊎ ((pixels w items < h * w) × InRepeat rest)
+
+-- The last run makes more pixels than h rows have; or the last repeat makes as many, and the row that it repeats still has to stand.
 abbrev pub IsPast : ℕ → ℕ → List Item → Type 0
-IsPast w h items = (h * w < pixels w items) ⊎ ((before : List Item) × (n : ℕ) × (items ≡ before ++ Repeat n ∷ []) × (h * w ≤ pixels w items))
+IsPast w h items = ((n : ℕ) × Ends w h items (Run n) × (h * w < pixels w items)) ⊎ ((n : ℕ) × Ends w h items (Repeat n) × (h * w ≤ pixels w items))
 
 -- What stands in the nybbles where a raster of runs is refused. Each speaks of the items from the raster's start up to
 -- some place: then no item follows, and there are too few pixels; they pass the last row; a row has two repeats; they are
@@ -39,7 +43,7 @@ IsPast w h items = (h * w < pixels w items) ⊎ ((before : List Item) × (n : �
 abbrev pub FaultIs : ℕ → ℕ → ℕ → List ℕ → RasterFault → Type 0
 FaultIs dyn_f w h ns fault.RunsShort = (items : List Item) × (rest : List ℕ) × Spells dyn_f ns items rest × (item_at dyn_f rest ≡ None) × (InRepeat rest → ⊥) × (pixels w items < h * w)
 FaultIs dyn_f w h ns fault.RunsPast = (items : List Item) × (rest : List ℕ) × Spells dyn_f ns items rest × IsPast w h items
-FaultIs dyn_f w h ns fault.RepeatTwice = (items : List Item) × (rest : List ℕ) × Spells dyn_f ns items rest × IsTwice w items rest
+FaultIs dyn_f w h ns fault.RepeatTwice = (items : List Item) × (rest : List ℕ) × Spells dyn_f ns items rest × IsTwice w h items rest
 FaultIs dyn_f w h ns fault.BadLength = (items : List Item) × (rest : List ℕ) × Spells dyn_f ns items rest × (pixels w items ≡ h * w) × (1 < length rest)
 FaultIs dyn_f w h ns fault.OutOfMemory = Unit {0}
 

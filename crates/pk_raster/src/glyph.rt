@@ -9,9 +9,9 @@ ghost use Rattle.pk_raster.specs.declared.board.RasterFault.TheVariants.{OutOfMe
 
 use crate::board::{Board, RasterFault};
 use crate::decode::decode;
-use crate::number::{signed, unsigned};
 use crate::part::by_form;
 use crate::plain::plain;
+use dv_base::{signed, unsigned};
 use std::alloc::Global;
 
 /// The sizes of a glyph in pixels. `hoff` and `voff` lead from the upper left pixel to the reference pixel.

@@ -22,8 +22,8 @@ mod decode;
 mod fault;
 mod glyph;
 mod items;
+mod laws;
 mod lay;
-mod number;
 mod packed;
 mod paint;
 mod part;
@@ -32,6 +32,7 @@ mod plain;
 mod read;
 
 pub use fault::PkFault;
+pub use laws::{one_font, whole_rows};
 pub use pk::{Glyph, Look, Pk};
 
 #[cfg(test)]

@@ -4,7 +4,7 @@ ghost use Rattle.pk_raster.specs.Parts.{by_form, head_len, content_len, code_in,
 ghost use Rattle.pk_raster.specs.PartFaults.{IsPartAt, NoPartAt, part_view, FitsIn};
 
 use crate::fault::PkFault;
-use crate::number::unsigned;
+use dv_base::unsigned;
 
 /// A character: its flag byte, its code, and the bytes of its sizes and raster.
 #[derive(Clone, Copy)]

@@ -12,9 +12,9 @@ ghost use Rattle.pk_raster.specs.declared.fault.PkFault.TheVariants.{OutOfMemory
 use crate::board::RasterFault;
 use crate::fault::PkFault;
 use crate::glyph::{bitmap_bytes, draw, read_sizes, sizes_len};
-use crate::number::unsigned;
 use crate::part::{BodyPart, CharacterPacket, next_part};
 use crate::pk::Pk;
+use dv_base::unsigned;
 use std::alloc::Global;
 
 /// A bitmap of more bytes isn't kept.
