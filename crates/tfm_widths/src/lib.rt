@@ -14,6 +14,8 @@
 mod fault;
 mod layout;
 #[cfg(test)]
+mod real_tests;
+#[cfg(test)]
 mod tests;
 mod tfm;
 

@@ -1,6 +1,6 @@
 //! TFM files that were written by hand.
 use crate::{Tfm, TfmFault};
-use std::alloc::Global;
+use std::alloc::{AllocError, Global};
 
 /// Codes 65 and 67 with the fix_words 524288 and -1048576; code 66 has the width index 0.
 const SAMPLE: [u8; 70] = [
@@ -64,6 +64,21 @@ fn refuses_prefixes(rt: HostRuntime) {
         );
     }
     assert_eq!(rt; fault_of(rt.alloc(), &SAMPLE[..LENGTH]), None);
+}
+
+#[test]
+fn tells_faults_by_name(rt: HostRuntime) -> Result<(), AllocError> {
+    for (fault, name) in [
+        (TfmFault::Short, "Short"),
+        (TfmFault::BadLengths, "BadLengths"),
+        (TfmFault::BadWidth(2), "BadWidth"),
+        (TfmFault::BadIndex(65), "BadIndex"),
+        (TfmFault::OutOfMemory, "OutOfMemory"),
+    ] {
+        let text = format!(in rt.alloc(); "{fault}")?;
+        assert_eq!(rt; text.as_str(), name);
+    }
+    Ok(())
 }
 
 #[test]
