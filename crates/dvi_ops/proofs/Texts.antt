@@ -6,13 +6,13 @@ use Rattle.std.proofs.lemmas.List.{get_or_append_left, drop_more, take-append-dr
 use Rattle.byteorder.specs.Endian.{big_number}
 use Rattle.byteorder.specs.Numbers.{big_from-append}
 use Rattle.dvi_ops.specs.Command.{Command}
-use Rattle.dvi_ops.specs.Spelling.{fixed_len, text_len, extent, meaning, Spell, byte_at, behind}
+use Rattle.dvi_ops.specs.Spelling.{fixed_len, text_len, extent, meaning, low, motion, high, Spell, byte_at, behind}
 use Rattle.dvi_ops.specs.declared.cmd.OpFault.{OpFault}
 use Rattle.dvi_ops.specs.declared.cmd.OpFault.TheVariants as fault
 use Rattle.dvi_ops.specs.View.{FaultAt, NoSpelling}
 use Rattle.dvi_ops.specs.Laws.{OneSpelling}
 
-no_text : (op : ℕ) (xs : List ℕ) → (op < 239) ⊎ (248 ≤ op) → text_len op xs ≡ 0
+pub no_text : (op : ℕ) (xs : List ℕ) → (op < 239) ⊎ (248 ≤ op) → text_len op xs ≡ 0
 unfolding text_len
 no_text op xs h = elim h [ inl a ↦ grind (arith, nat_tests) | inr a ↦ grind (arith, nat_tests) ]
 
@@ -39,6 +39,18 @@ len_of_def op a b = grind (arith, nat_tests)
 len_of_pre : (op : ℕ) → 247 ≤ op → op < 248 → fixed_len op ≡ 14
 unfolding fixed_len
 len_of_pre op a b = grind (arith, nat_tests)
+
+pub meaning_of_low : (op : ℕ) (args : List ℕ) → op < 143 → meaning op args ≡ low op args
+unfolding meaning
+meaning_of_low op args a = grind (arith, nat_tests)
+
+pub meaning_of_high : (op : ℕ) (args : List ℕ) → 171 ≤ op → meaning op args ≡ high op args
+unfolding meaning
+meaning_of_high op args a = grind (arith, nat_tests)
+
+pub meaning_of_move : (op : ℕ) (args : List ℕ) → 143 ≤ op → op < 171 → meaning op args ≡ motion op args
+unfolding meaning
+meaning_of_move op args a b = grind (arith, nat_tests)
 
 -- bytes that follow don't change it
 pub text_len-append : (op : ℕ) (xs ys : List ℕ) → fixed_len op ≤ length xs → text_len op (xs ++ ys) ≡ text_len op xs
@@ -77,6 +89,15 @@ spelled bytes at n rest cmd r h low e fits m =
     let few : fixed_len op ≤ length (take n rest) = omega arith in
     let same : extent op rest ≡ extent op (take n rest) = ap (extent op) (sym (take-append-drop n rest)) ∙ extent-append op (take n rest) (drop n rest) few in
     (omega arith, subst (λ (bs : List ℕ). Spell cmd bs) (sym whole) (low, len ∙ e ∙ same, sym m))
+
+-- so is one without operands
+pub spelled_single : (bytes : List ℕ) (at : ℕ) (cmd : Command) → at < length bytes → byte_at bytes at < 235 → fixed_len (byte_at bytes at) ≡ 0 → cmd ≡ meaning (byte_at bytes at) [] → (at + 1 ≤ length bytes) × Spell cmd (slice_range bytes at (at + 1))
+spelled_single bytes at cmd h low none m =
+    let op = byte_at bytes at in
+    let rest = take (length bytes - (at + 1)) (drop (at + 1) bytes) in
+    let s = spelled bytes at 0 rest cmd refl h (omega (arith, low)) (omega (arith, none, no_text op rest (inl (omega (arith, low))))) (omega arith) m in
+    let next : at + 1 + 0 ≡ at + 1 = omega arith in
+    subst (λ (n : ℕ). (n ≤ length bytes) × Spell cmd (slice_range bytes at n)) next s
 
 -- two fronts of one list that have one length are one
 fronts : (a b x y : List ℕ) → length a ≡ length b → a ++ x ≡ b ++ y → a ≡ b

@@ -1,8 +1,17 @@
 //! How many bytes a command has behind its operation byte.
-ghost use Rattle.std.specs.Prelude.{◌≡◌, ◌≤◌, ◌<◌, length, ◌^◌};
+ghost use Rattle.std.specs.Prelude.{◌≡◌, ◌≤◌, ◌<◌, ◌⊎◌, ◌^◌, MatchBool, length};
 ghost use Rattle.dvi_ops.specs.Spelling.{fixed_len, text_len};
 
 use byteorder::{BigEndian, ByteOrder};
+
+/// Whether the operation is one of a page's commands that have no operands, eop apart.
+#[inline(always)]
+#[tactic(auto, unfolding(crate::specs::Spelling::fixed_len))]
+pub fn is_single(op: u8) -> bool
+    ensures { MatchBool result ((fixed_len op ≡ 0) × ((op < 139) ⊎ ((140 < op) × (op < 235)))) ((op ≡ 140) ⊎ ((0 < fixed_len op) ⊎ (250 ≤ op))) }
+{
+    matches!(op, 0..=127 | 138 | 141 | 142 | 147 | 152 | 161 | 166 | 171..=234)
+}
 
 /// How many bytes of operands stand behind `op`, without a text at their end.
 #[tactic(auto, unfolding(crate::specs::Spelling::fixed_len))]

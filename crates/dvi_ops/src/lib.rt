@@ -18,10 +18,12 @@ mod cmd;
 mod laws;
 mod length;
 mod number;
+mod plain;
 mod read;
 
 pub use cmd::{Cmd, Def, Head, OpFault, Tail};
-pub use laws::one_spelling;
+pub use laws::{one_reading, one_spelling};
+pub use plain::pass;
 pub use read::next_cmd;
 
 #[cfg(test)]

@@ -1,18 +1,37 @@
 //! Reads one command: its length from the operation byte and the operands that count a text, then its operands.
-ghost use Rattle.std.specs.Prelude.{◌≡◌, ◌≤◌, ◌<◌, ◌+◌, length, slice_range, IfOk, IfErr, OnErr};
-ghost use Rattle.dvi_ops.specs.Spelling.{fixed_len, low, motion, high, definition, counts, meaning, Spell, preamble, postamble};
+ghost use Rattle.std.specs.Prelude.{◌≡◌, ◌≤◌, ◌<◌, ◌+◌, ◌⊎◌, [], length, slice_range, IfOk, IfErr, OnErr};
+ghost use Rattle.dvi_ops.specs.Spelling.{byte_at, fixed_len, low, motion, high, definition, counts, meaning, Spell, preamble, postamble};
 ghost use Rattle.dvi_ops.specs.View.{view, def_view, head_view, tail_view, FaultAt, NoSpelling};
 
 use crate::cmd::{Cmd, Def, Head, OpFault, Tail};
-use crate::length::{fixed_len, text_len};
+use crate::length::{fixed_len, is_single, text_len};
 use crate::number::{code, signed, unsigned2, unsigned4};
 
 /// Reads the command at a place, and answers it with the place after it (DVI format, the table of commands).
 ///
 /// Texts are lent from `bytes`. Where it answers a fault, no spelling of a command begins at the place: `Undefined` where the byte
 /// there is 250 or more, `Short` where the bytes end before the command does. The place in a fault is `at`.
+// Most commands of a page are one byte: these are answered where the caller stands, with nothing but a small value written.
+#[inline(always)]
 pub fn next_cmd(bytes: &[u8], at: usize) -> Result<(Cmd<'_>, usize), OpFault>
     requires { at < length bytes.now }
+    ensures found { IfOk result (λ r. (at < r.1) × (r.1 ≤ length bytes.now) × Spell (view r.0) (slice_range bytes.now at r.1)) }
+    ensures fault { IfErr result (λ e. FaultAt bytes.now at e) }
+    ensures none { OnErr result (NoSpelling bytes.now at) }
+{
+    let op = bytes[at];
+    if is_single(op) {
+        return Ok((read_single(op), at + 1));
+    }
+    next_long(bytes, at)
+}
+
+/// Reads the command at a place where none without operands stands, but for eop.
+// Kept out of its callers, and each kind with a return of its own: so no caller's loop moves a value of the largest command's size.
+#[inline(never)]
+fn next_long(bytes: &[u8], at: usize) -> Result<(Cmd<'_>, usize), OpFault>
+    requires inside { at < length bytes.now }
+    requires long { (byte_at bytes.now at ≡ 140) ⊎ ((0 < fixed_len (byte_at bytes.now at)) ⊎ (250 ≤ byte_at bytes.now at)) }
     ensures found { IfOk result (λ r. (at < r.1) × (r.1 ≤ length bytes.now) × Spell (view r.0) (slice_range bytes.now at r.1)) }
     ensures fault { IfErr result (λ e. FaultAt bytes.now at e) }
     ensures none { OnErr result (NoSpelling bytes.now at) }
@@ -26,48 +45,56 @@ pub fn next_cmd(bytes: &[u8], at: usize) -> Result<(Cmd<'_>, usize), OpFault>
     if rest.len() < fixed {
         return Err(OpFault::Short(at));
     }
+    if op < 143 {
+        return Ok((read_low(op, &rest[..fixed]), at + 1 + fixed));
+    }
+    if op < 171 {
+        return Ok((read_motion(op, &rest[..fixed]), at + 1 + fixed));
+    }
     let len = fixed + text_len(op, rest);
     if rest.len() < len {
         return Err(OpFault::Short(at));
     }
-    Ok((read_command(op, &rest[..len]), at + 1 + len))
+    Ok((read_high(op, &rest[..len]), at + 1 + len))
 }
 
-/// The command of an operation byte and all its operands.
-#[tactic(auto, unfolding(crate::specs::Spelling::meaning))]
-fn read_command<'a>(op: u8, args: &'a [u8]) -> Cmd<'a>
-    requires high { op < 250 }
-    requires room { fixed_len op ≤ length args.now }
-    ensures { view result ≡ meaning op args.now }
+/// The command of an operation byte that has no operands.
+#[inline(always)]
+#[tactic(auto, unfolding(crate::specs::Spelling::meaning, crate::specs::Spelling::low, crate::specs::Spelling::motion, crate::specs::Spelling::high, crate::specs::Spelling::fixed_len))]
+fn read_single<'a>(op: u8) -> Cmd<'a>
+    requires inside { (op < 139) ⊎ ((140 < op) × (op < 235)) }
+    requires none { fixed_len op ≡ 0 }
+    ensures { view result ≡ meaning op [] }
 {
-    if op < 143 {
-        read_low(op, args)
-    } else if op < 171 {
-        read_motion(op, args)
-    } else {
-        read_high(op, args)
+    match op {
+        0..=127 => Cmd::Set(op as i64),
+        138 => Cmd::Nop,
+        141 => Cmd::Push,
+        142 => Cmd::Pop,
+        147 => Cmd::W0,
+        152 => Cmd::X0,
+        161 => Cmd::Y0,
+        166 => Cmd::Z0,
+        _ => Cmd::Fnt((op - 171) as i64),
     }
 }
 
-/// One of the moves, 143 to 170.
+/// One of the moves with a distance, 143 to 170.
 #[tactic(auto, unfolding(crate::specs::Spelling::motion, crate::specs::Spelling::fixed_len))]
 fn read_motion<'a>(op: u8, args: &'a [u8]) -> Cmd<'a>
     requires low { 143 ≤ op }
     requires high { op < 171 }
+    requires long { 0 < fixed_len op }
     requires room { fixed_len op ≤ length args.now }
     ensures { view result ≡ motion op args.now }
 {
     let n = op as usize;
     match n {
-        0..=146 => Cmd::Right(signed(args, 0, n - 142)),
-        147 => Cmd::W0,
+        143..=146 => Cmd::Right(signed(args, 0, n - 142)),
         148..=151 => Cmd::W(signed(args, 0, n - 147)),
-        152 => Cmd::X0,
         153..=156 => Cmd::X(signed(args, 0, n - 152)),
         157..=160 => Cmd::Down(signed(args, 0, n - 156)),
-        161 => Cmd::Y0,
         162..=165 => Cmd::Y(signed(args, 0, n - 161)),
-        166 => Cmd::Z0,
         _ => Cmd::Z(signed(args, 0, n - 166)),
     }
 }
@@ -92,16 +119,16 @@ fn read_counts(args: &[u8]) -> [i32; 10]
     ]
 }
 
-/// A character, a rule or a command without a size, 0 to 142.
+/// A character with its code behind it, a rule, bop or eop, 128 to 140.
 #[tactic(auto, unfolding(crate::specs::Spelling::low, crate::specs::Spelling::fixed_len))]
 fn read_low<'a>(op: u8, args: &'a [u8]) -> Cmd<'a>
     requires high { op < 143 }
+    requires long { (op ≡ 140) ⊎ (0 < fixed_len op) }
     requires room { fixed_len op ≤ length args.now }
     ensures { view result ≡ low op args.now }
 {
     let n = op as usize;
     match n {
-        0..=127 => Cmd::Set(op as i64),
         128..=131 => Cmd::Set(code(args, n - 127)),
         132 => Cmd::SetRule {
             a: signed(args, 0, 4),
@@ -112,14 +139,11 @@ fn read_low<'a>(op: u8, args: &'a [u8]) -> Cmd<'a>
             a: signed(args, 0, 4),
             b: signed(args, 4, 4),
         },
-        138 => Cmd::Nop,
         139 => Cmd::Bop {
             counts: read_counts(args),
             back: signed(args, 40, 4),
         },
-        140 => Cmd::Eop,
-        141 => Cmd::Push,
-        _ => Cmd::Pop,
+        _ => Cmd::Eop,
     }
 }
 
@@ -174,17 +198,17 @@ fn read_post(args: &[u8]) -> Tail
     }
 }
 
-/// A font, a special, a definition or what stands round the pages, 171 to 249.
+/// A font with its number behind it, a special, a definition or what stands round the pages, 235 to 249.
 #[tactic(auto, unfolding(crate::specs::Spelling::high, crate::specs::Spelling::fixed_len))]
 fn read_high<'a>(op: u8, args: &'a [u8]) -> Cmd<'a>
     requires low { 171 ≤ op }
     requires high { op < 250 }
+    requires long { 0 < fixed_len op }
     requires room { fixed_len op ≤ length args.now }
     ensures { view result ≡ high op args.now }
 {
     let n = op as usize;
     match n {
-        0..=234 => Cmd::Fnt((n - 171) as i64),
         235..=238 => Cmd::Fnt(code(args, n - 234)),
         239..=242 => Cmd::Xxx(&args[n - 238..]),
         243..=246 => Cmd::FntDef(read_def(n - 242, args)),

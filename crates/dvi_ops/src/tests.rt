@@ -16,7 +16,7 @@ fn shown(rt: &HostRuntime, bytes: &[u8]) -> Result<String, Fail> {
 
 #[test]
 fn commands_by_the_table(rt: HostRuntime) -> Result<(), Fail> {
-    let cases: [(&[u8], &str); 30] = [
+    let cases: [(&[u8], &str); 37] = [
         (&[65], "Set(65) 1"),
         (&[128, 65], "Set(65) 2"),
         (&[129, 1, 0, 9], "Set(256) 3"),
@@ -27,6 +27,8 @@ fn commands_by_the_table(rt: HostRuntime) -> Result<(), Fail> {
             "SetRule { a: 2, b: -1 } 9",
         ),
         (&[133, 200], "Put(200) 2"),
+        (&[134, 1, 2], "Put(258) 3"),
+        (&[135, 255, 0, 0], "Put(16711680) 4"),
         (&[136, 128, 0, 0, 0], "Put(-2147483648) 5"),
         (
             &[137, 0, 0, 0, 5, 255, 255, 255, 255],
@@ -50,8 +52,13 @@ fn commands_by_the_table(rt: HostRuntime) -> Result<(), Fail> {
         (&[171], "Fnt(0) 1"),
         (&[234], "Fnt(63) 1"),
         (&[235, 255], "Fnt(255) 2"),
+        (&[236, 1, 0], "Fnt(256) 3"),
+        (&[237, 255, 255, 255], "Fnt(16777215) 4"),
         (&[238, 255, 255, 255, 254], "Fnt(-2) 5"),
         (&[239, 2, 7, 8, 9], "Xxx([7, 8]) 4"),
+        (&[240, 0, 2, 7, 8, 9], "Xxx([7, 8]) 5"),
+        (&[241, 0, 0, 1, 7, 9], "Xxx([7]) 5"),
+        (&[242, 0, 0, 0, 0, 9], "Xxx([]) 5"),
         (
             &[249, 0, 0, 0, 88, 2, 223],
             "PostPost { back: 88, id: 2 } 6",
@@ -77,7 +84,7 @@ fn long_commands_and_faults(rt: HostRuntime) -> Result<(), Fail> {
         248, 0, 0, 0, 15, 1, 131, 146, 192, 28, 59, 0, 0, 0, 0, 3, 232, 0, 0, 0, 0, 0, 0, 0, 0, 0,
         1, 255, 255,
     ];
-    let cases: [(&[u8], &str); 12] = [
+    let cases: [(&[u8], &str); 15] = [
         (
             &bop,
             "Bop { counts: [1, -1, 0, 0, 0, 0, 0, 0, 0, 9], back: -1 } 45",
@@ -85,6 +92,22 @@ fn long_commands_and_faults(rt: HostRuntime) -> Result<(), Fail> {
         (
             &definition,
             "FntDef(Def { k: 7, checksum: 1, size: 655360, design: -1, name: [97, 98, 99], area: 1 }) 19",
+        ),
+        (
+            &[244, 1, 0, 0, 0, 0, 1, 0, 0, 0, 2, 0, 0, 0, 3, 0, 1, 97, 9],
+            "FntDef(Def { k: 256, checksum: 1, size: 2, design: 3, name: [97], area: 0 }) 18",
+        ),
+        (
+            &[
+                245, 255, 0, 0, 128, 0, 0, 0, 0, 0, 0, 2, 0, 0, 0, 3, 1, 0, 97,
+            ],
+            "FntDef(Def { k: 16711680, checksum: 2147483648, size: 2, design: 3, name: [97], area: 1 }) 19",
+        ),
+        (
+            &[
+                246, 255, 255, 255, 255, 0, 0, 0, 1, 0, 0, 0, 2, 0, 0, 0, 3, 0, 0,
+            ],
+            "FntDef(Def { k: -1, checksum: 1, size: 2, design: 3, name: [], area: 0 }) 19",
         ),
         (
             &pre,
@@ -107,5 +130,28 @@ fn long_commands_and_faults(rt: HostRuntime) -> Result<(), Fail> {
         assert_eq!(rt; shown(&rt, bytes)?.as_str(), want);
     }
     one_spelling();
+    one_reading();
+    Ok(())
+}
+
+#[test]
+fn passes_over_plain_commands(rt: HostRuntime) -> Result<(), Fail> {
+    let plain: [(&[u8], usize); 6] = [
+        (&[0], 1),
+        (&[138, 138], 1),
+        (&[132, 0, 0, 0, 1, 0, 0, 0, 1, 9], 9),
+        (&[146, 0, 0, 0, 0], 5),
+        (&[234], 1),
+        (&[238, 0, 0, 0, 0], 5),
+    ];
+    for (bytes, end) in plain {
+        assert!(rt; !bytes.is_empty());
+        assert_eq!(rt; pass(bytes, 0), Some(end));
+    }
+    let others: [&[u8]; 6] = [&[139], &[140], &[239, 0], &[243], &[128], &[250]];
+    for bytes in others {
+        assert!(rt; !bytes.is_empty());
+        assert_eq!(rt; pass(bytes, 0), None);
+    }
     Ok(())
 }
