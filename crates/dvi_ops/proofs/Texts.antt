@@ -5,6 +5,7 @@ use Rattle.std.proofs.lemmas.Bool.Decides.{nat_tests}
 use Rattle.std.proofs.lemmas.List.{get_or_append_left, drop_more, take-append-drop, length-take-le, length-drop, take_at, take_rest}
 use Rattle.byteorder.specs.Endian.{big_number}
 use Rattle.byteorder.specs.Numbers.{big_from-append}
+use Rattle.dv_base.specs.Numbers.{unsigned}
 use Rattle.dvi_ops.specs.Command.{Command}
 use Rattle.dvi_ops.specs.Spelling.{fixed_len, text_len, extent, meaning, low, motion, high, Spell, byte_at, behind}
 use Rattle.dvi_ops.specs.declared.cmd.OpFault.{OpFault}
@@ -17,7 +18,7 @@ unfolding text_len
 no_text op xs h = elim h [ inl a ↦ grind (arith, nat_tests) | inr a ↦ grind (arith, nat_tests) ]
 
 text_of_xxx : (op : ℕ) (xs : List ℕ) → 239 ≤ op → op < 243 → text_len op xs ≡ big_number (op - 238) xs
-unfolding text_len
+unfolding text_len unsigned
 text_of_xxx op xs a b = grind (arith, nat_tests)
 
 text_of_def : (op : ℕ) (xs : List ℕ) → 243 ≤ op → op < 247 → text_len op xs ≡ slice_index xs (op - 242 + 12) + slice_index xs (op - 242 + 13)

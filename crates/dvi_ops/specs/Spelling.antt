@@ -1,20 +1,13 @@
 -- The table of commands (DVI format): for each operation byte, 0 to 249, how many bytes of operands it has and what they mean.
 -- Numbers have their highest byte first. A command may have several spellings; what the bytes 250 to 255 begin is none.
 use Rattle.std.specs.Prelude.{◌≡◌, ℕ, ℤ, pos, ◌+◌, ◌-◌, ◌<◌, List, [], ◌∷◌, length, drop, slice_index, nat_lt, if◌then◌else◌}
-use Rattle.byteorder.specs.Endian.{big_number, twos_complement}
+use Rattle.dv_base.specs.Numbers.{unsigned, signed}
 use Rattle.dvi_ops.specs.Command.{Command, Definition, Preamble, Postamble}
 use Rattle.dvi_ops.specs.Command.Command.{Set, SetRule, Put, PutRule, Nop, Bop, Eop, Push, Pop, Right, W0, W, X0, X, Down, Y0, Y, Z0, Z, Fnt, Xxx, FntDef, Pre, Post, PostPost}
 
--- the unsigned number in n bytes from place i, and the one in two's complement
-unfoldable pub unsigned : ℕ → ℕ → List ℕ → ℕ
-unsigned i n args = big_number n (drop i args)
-
-unfoldable pub signed : ℕ → ℕ → List ℕ → ℤ
-signed i n args = twos_complement n (big_number n (drop i args))
-
 -- a code or a font number of n bytes: unsigned up to three bytes, in two's complement with four
 unfoldable pub code : ℕ → List ℕ → ℤ
-code n args = if nat_lt n 4 then pos (big_number n args) else twos_complement 4 (big_number 4 args)
+code n args = if nat_lt n 4 then pos (unsigned 0 n args) else signed 0 4 args
 
 -- How many bytes of operands stand behind each operation byte, without a text at their end:
 -- set_char none, set 1 to 4, set_rule 8, put 1 to 4, put_rule 8, nop none, bop 44, eop, push and pop none, right 1 to 4, w0 none,
@@ -33,7 +26,7 @@ fixed_len op =
 -- before it. Where args end before that number does, what this gives counts for nothing: they are too short already.
 unfoldable pub text_len : ℕ → List ℕ → ℕ
 text_len op args =
-    if nat_lt op 239 then 0 else if nat_lt op 243 then big_number (op - 238) args
+    if nat_lt op 239 then 0 else if nat_lt op 243 then unsigned 0 (op - 238) args
     else if nat_lt op 247 then slice_index args (op - 242 + 12) + slice_index args (op - 242 + 13)
     else if nat_lt op 248 then slice_index args 13 else 0
 

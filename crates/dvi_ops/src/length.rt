@@ -2,7 +2,7 @@
 ghost use Rattle.std.specs.Prelude.{◌≡◌, ◌≤◌, ◌<◌, ◌⊎◌, ◌^◌, MatchBool, length};
 ghost use Rattle.dvi_ops.specs.Spelling.{fixed_len, text_len};
 
-use byteorder::{BigEndian, ByteOrder};
+use dv_base::unsigned;
 
 /// Whether the operation is one of a page's commands that have no operands, eop apart.
 #[inline(always)]
@@ -50,7 +50,7 @@ pub fn text_len(op: u8, args: &[u8]) -> usize
 {
     let n = op as usize;
     match n {
-        239..=242 => BigEndian::read_uint(args, n - 238) as usize,
+        239..=242 => unsigned(args, 0, n - 238) as usize,
         243..=246 => args[n - 242 + 12] as usize + args[n - 242 + 13] as usize,
         247 => args[13] as usize,
         _ => 0,

@@ -5,7 +5,8 @@ ghost use Rattle.dvi_ops.specs.View.{view, def_view, head_view, tail_view, Fault
 
 use crate::cmd::{Cmd, Def, Head, OpFault, Tail};
 use crate::length::{fixed_len, is_single, text_len};
-use crate::number::{code, signed, unsigned2, unsigned4};
+use crate::number::code;
+use dv_base::{signed, unsigned};
 
 /// Reads the command at a place, and answers it with the place after it (DVI format, the table of commands).
 ///
@@ -157,7 +158,7 @@ fn read_def<'a>(n: usize, args: &'a [u8]) -> Def<'a>
 {
     Def {
         k: code(args, n),
-        checksum: unsigned4(args, n),
+        checksum: unsigned(args, n, 4),
         size: signed(args, n + 4, 4),
         design: signed(args, n + 8, 4),
         area: args[n + 12],
@@ -193,8 +194,8 @@ fn read_post(args: &[u8]) -> Tail
         mag: signed(args, 12, 4),
         tall: signed(args, 16, 4),
         wide: signed(args, 20, 4),
-        depth: unsigned2(args, 24),
-        pages: unsigned2(args, 26),
+        depth: unsigned(args, 24, 2) as u16,
+        pages: unsigned(args, 26, 2) as u16,
     }
 }
 
@@ -215,7 +216,7 @@ fn read_high<'a>(op: u8, args: &'a [u8]) -> Cmd<'a>
         247 => Cmd::Pre(read_pre(args)),
         248 => Cmd::Post(read_post(args)),
         _ => Cmd::PostPost {
-            back: unsigned4(args, 0),
+            back: unsigned(args, 0, 4),
             id: args[4],
         },
     }
