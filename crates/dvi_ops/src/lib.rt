@@ -15,6 +15,7 @@
 #![tactic(auto)]
 
 mod cmd;
+mod font_numbers;
 mod laws;
 mod length;
 mod number;
@@ -22,6 +23,7 @@ mod plain;
 mod read;
 
 pub use cmd::{Cmd, Def, Head, OpFault, Tail};
+pub use font_numbers::FontNumbers;
 pub use laws::{one_reading, one_spelling};
 pub use plain::pass;
 pub use read::next_cmd;

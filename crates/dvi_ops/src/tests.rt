@@ -155,3 +155,17 @@ fn passes_over_plain_commands(rt: HostRuntime) -> Result<(), Fail> {
     }
     Ok(())
 }
+
+#[test]
+fn numbers_of_fonts(rt: HostRuntime) -> Result<(), Fail> {
+    let mut numbers = FontNumbers::new(rt.alloc());
+    let pushed = [(5, true), (-1, true), (5, false), (1 << 40, true)];
+    for (k, new) in pushed {
+        assert_eq!(rt; numbers.push(k)?, new);
+    }
+    let places = [(5, Some(0)), (-1, Some(1)), (1 << 40, Some(2)), (0, None)];
+    for (k, place) in places {
+        assert_eq!(rt; numbers.place(k), place);
+    }
+    Ok(())
+}
