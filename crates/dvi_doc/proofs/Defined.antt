@@ -1,37 +1,36 @@
 -- Definitions by their numbers.
-use Rattle.std.proofs.Common.{◌≡◌, ◌<◌, ◌+◌, ℕ, zero, suc, ℤ, ◌⊎◌, inl, inr, List, [], ◌∷◌, ◌++◌, length, map, take, drop, refl, sym, ap, subst, ◌∙◌, arith, Bool, true, false, slice_index_or, get_or, not, if◌then◌else◌, IsTrue, ◌↔◌, MatchBool}
-use Rattle.std.specs.List.{All, Contains, list_any}
-use Rattle.std.specs.Ordering.{int_eq}
-use Rattle.std.specs.Bool.{Decides}
-use Rattle.std.proofs.lemmas.Bool.Decides.{Decides-or, Decides-like, Decides-int_eq}
+use Rattle.std.proofs.Common.{◌≡◌, ◌<◌, ◌+◌, ℕ, zero, suc, ℤ, ◌⊎◌, inl, inr, List, [], ◌∷◌, ◌++◌, length, map, take, drop, refl, sym, ap, subst, ◌∙◌, arith, Bool, true, false, slice_index_or, get_or, IsTrue, ◌↔◌, MatchBool}
+use Rattle.std.specs.List.{All, Contains}
 use Rattle.std.proofs.lemmas.List.{take_more, map-append, length-map, drop_more, take-append-drop}
 use Rattle.std.proofs.lemmas.List.Elements.{All-append, All-cons, All-nil}
 use Rattle.dvi_ops.specs.Command.{Definition}
+use Rattle.dvi_ops.specs.FontNumbers.{StandsAt}
 use Rattle.dvi_ops.specs.View.{def_view}
 use Rattle.dvi_ops.specs.declared.cmd.Def.{Def}
-use Rattle.dvi_doc.specs.Grammar.{number_of, Defines, DefinesTwice, AreFonts, IsName, IsSize}
-use Rattle.dvi_doc.specs.Faults.{AddFault, FontFault}
+use Rattle.dvi_doc.specs.Grammar.{number_of, Defines, DefinesTwice, AreFonts, IsNamed, IsSize, IsSized}
+use Rattle.dvi_doc.specs.Faults.{FontFault}
+use Rattle.dvi_doc.specs.PartFaults.{AddFault}
 use Rattle.dvi_doc.specs.View.{font_view}
 use Rattle.dvi_doc.specs.declared.font.FontDef.{FontDef}
 use Rattle.dvi_doc.specs.declared.fault.DocFault.{DocFault}
 use Rattle.dvi_doc.specs.declared.fault.DocFault.TheVariants as fault
 
--- looking a number up tells whether it is defined
-pub tells : (k : ℤ) (ds : List Definition) → Decides (list_any (int_eq k) (map number_of ds)) (Defines ds k)
-tells k [] = ((λ e. cc), λ h. absurd h)
-tells k (d ∷ ds) =
-    Decides-or (int_eq k d.k) (list_any (int_eq k) (map number_of ds)) (Decides-like (int_eq k d.k) (λ e. sym e) (λ e. sym e) (Decides-int_eq k d.k)) (tells k ds)
+-- the numbers of definitions are those that they define
+number_at : (ds : List Definition) (k : ℤ) (i : ℕ) → i < length (map number_of ds) → slice_index_or (map number_of ds) i k ≡ k → Defines ds k
+number_at [] k i h e = absurd (omega (arith, h))
+number_at (d ∷ ds) k zero h e = inl e
+number_at (d ∷ ds) k (suc i) h e = inr (number_at ds k i (omega (arith, h)) e)
 
-pub not_defined : (k : ℤ) (ds : List Definition) (keys : List ℤ) → keys ≡ map number_of ds → false ≡ list_any (int_eq k) keys → Defines ds k → ⊥
-not_defined k ds keys e n h =
-    let yes : list_any (int_eq k) keys ≡ true = ap (list_any (int_eq k)) e ∙ (tells k ds).1 h in
-    let no_yes : false ≡ true = n ∙ yes in cc
+pub is_defined : (ds : List Definition) (ns : List ℤ) (k : ℤ) → ns ≡ map number_of ds → Contains ns k → Defines ds k
+is_defined ds ns k e h = let m = subst (λ (l : List ℤ). Contains l k) e h in number_at ds k m.0 m.1 m.2
 
-pub is_defined : (k : ℤ) (ds : List Definition) (keys : List ℤ) → keys ≡ map number_of ds → list_any (int_eq k) keys ≡ true → Defines ds k
-is_defined k ds keys e y = (tells k ds).0 (sym (ap (list_any (int_eq k)) e) ∙ y)
+number_of_defined : (ds : List Definition) (k : ℤ) → Defines ds k → Contains (map number_of ds) k
+number_of_defined [] k h = absurd h
+number_of_defined (d ∷ ds) k h =
+    elim h [ inl e ↦ (0, omega arith, e) | inr g ↦ (let m = number_of_defined ds k g in (suc m.0, omega (arith, m.1), m.2)) ]
 
-pub int_same : (a b : ℤ) → int_eq a b ≡ true → a ≡ b
-int_same a b h = (Decides-int_eq a b).0 h
+pub not_defined : (ds : List Definition) (ns : List ℤ) (k : ℤ) → ns ≡ map number_of ds → (Contains ns k → ⊥) → Defines ds k → ⊥
+not_defined ds ns k e n h = n (subst (λ (l : List ℤ). Contains l k) (sym e) (number_of_defined ds k h))
 
 defines_split : (ds es : List Definition) (k : ℤ) → Defines (ds ++ es) k → Defines ds k ⊎ Defines es k
 defines_split [] es k h = inr h
@@ -79,15 +78,15 @@ once_at (x ∷ ds) a b (suc i) (suc j) n h e k f s = once_at ds a b i j (λ q t.
 pub once : (ds : List Definition) (a b : Definition) → AreFonts ds → Contains ds a → Contains ds b → a.k ≡ b.k → a ≡ b
 once ds a b n h k s = once_at ds a b h.0 k.0 n.0 h.1 h.2 k.1 k.2 s
 
-pub add_font : (ds : List Definition) (d : Definition) → AreFonts ds → (Defines ds d.k → ⊥) → IsName d.name → IsSize d.size → IsSize d.design → AreFonts (ds ++ d ∷ [])
+pub add_font : (ds : List Definition) (d : Definition) → AreFonts ds → (Defines ds d.k → ⊥) → IsNamed d → IsSize d.size → IsSize d.design → AreFonts (ds ++ d ∷ [])
 add_font ds d h n name size design = (
   (λ k t. elim (twice_split ds d k t) [ inl x ↦ h.0 k x | inr x ↦ n (subst (λ (q : ℤ). Defines ds q) (sym x.0) x.1) ]),
-  All-append (λ (x : Definition). IsName x.name) ds (d ∷ []) h.1 (All-cons (λ (x : Definition). IsName x.name) d [] name (All-nil (λ (x : Definition). IsName x.name))),
-  All-append (λ (x : Definition). IsSize x.size × IsSize x.design) ds (d ∷ []) h.2 (All-cons (λ (x : Definition). IsSize x.size × IsSize x.design) d [] (size, design) (All-nil (λ (x : Definition). IsSize x.size × IsSize x.design))),
+  All-append IsNamed ds (d ∷ []) h.1 (All-cons IsNamed d [] name (All-nil IsNamed)),
+  All-append IsSized ds (d ∷ []) h.2 (All-cons IsSized d [] (size, design) (All-nil IsSized)),
 )
 
 pub no_fonts : AreFonts []
-no_fonts = ((λ k h. h), All-nil (λ (x : Definition). IsName x.name), All-nil (λ (x : Definition). IsSize x.size × IsSize x.design))
+no_fonts = ((λ k h. h), All-nil IsNamed, All-nil IsSized)
 
 in_middle : (xs ys : List Definition) (d : Definition) → Contains (xs ++ d ∷ ys) d
 in_middle [] ys d = (0, omega arith, refl)
@@ -120,35 +119,23 @@ font_there [] i f h e = absurd (omega arith)
 font_there (x ∷ fonts) zero f h e = ap font_view (sym e)
 font_there (x ∷ fonts) (suc i) f h e = font_there fonts i f (omega arith) e
 
-key_there : (fonts : List FontDef) (i : ℕ) (f : FontDef) → i < length fonts → f ≡ slice_index_or fonts i f → get_or (map number_of (map font_view fonts)) i f.k ≡ f.k
-key_there [] i f h e = absurd (omega arith)
-key_there (x ∷ fonts) zero f h e = ap (λ (y : FontDef). y.k) (sym e)
-key_there (x ∷ fonts) (suc i) f h e = key_there fonts i f (omega arith) e
+number_there : (fonts : List FontDef) (i : ℕ) (f : FontDef) (k : ℤ) → i < length fonts → f ≡ slice_index_or fonts i f → slice_index_or (map number_of (map font_view fonts)) i k ≡ f.k
+number_there [] i f k h e = absurd (omega arith)
+number_there (x ∷ fonts) zero f k h e = ap (λ (y : FontDef). y.k) (sym e)
+number_there (x ∷ fonts) (suc i) f k h e = number_there fonts i f k (omega arith) e
 
-pub font_found : (fonts : List FontDef) (keys : List ℤ) (k : ℤ) (i : ℕ) (f : FontDef) → keys ≡ map number_of (map font_view fonts) → i < length fonts → int_eq k (get_or keys i f.k) ≡ true → f ≡ slice_index_or fonts i f → Contains (map font_view fonts) (font_view f) × (f.k ≡ k)
-font_found fonts keys k i f e h t g =
-    let there : get_or keys i f.k ≡ f.k = ap (λ (l : List ℤ). get_or l i f.k) e ∙ key_there fonts i f h g in
-    ((i, omega (arith, h, length-map fonts font_view), font_there fonts i f h g), sym (int_same k (get_or keys i f.k) t ∙ there))
+pub numbers_len : (fonts : List FontDef) (ns : List ℤ) → ns ≡ map number_of (map font_view fonts) → length ns ≡ length fonts
+numbers_len fonts ns e = ap length e ∙ length-map (map font_view fonts) number_of ∙ length-map fonts font_view
 
-pub keys_len : (fonts : List FontDef) (keys : List ℤ) → keys ≡ map number_of (map font_view fonts) → length keys ≡ length fonts
-keys_len fonts keys e = ap length e ∙ length-map (map font_view fonts) number_of ∙ length-map fonts font_view
+pub font_found : (fonts : List FontDef) (ns : List ℤ) (k : ℤ) (i : ℕ) (f : FontDef) → ns ≡ map number_of (map font_view fonts) → StandsAt ns k i → f ≡ slice_index_or fonts i f → Contains (map font_view fonts) (font_view f) × (f.k ≡ k)
+font_found fonts ns k i f e h g =
+    let inside : i < length fonts = omega (arith, h.0, numbers_len fonts ns e) in
+    ((i, omega (arith, inside, length-map fonts font_view), font_there fonts i f inside g), sym (number_there fonts i f k inside g) ∙ sym (ap (λ (l : List ℤ). slice_index_or l i k) e) ∙ h.1)
 
 -- ---- one font more
 
-pub not_new : (b x : Bool) → x ≡ false → x ≡ not b → b ≡ true
-not_new true x e h = refl
-not_new false x e h = absurd (let f : false ≡ true = sym e ∙ h in cc)
-
-pub is_new : (b x : Bool) → x ≡ true → x ≡ not b → b ≡ false
-is_new false x e h = refl
-is_new true x e h = absurd (let f : true ≡ false = sym e ∙ h in cc)
-
-pub new_keys : (b : Bool) (xs ys zs : List ℤ) → b ≡ false → zs ≡ (if b then xs else ys) → zs ≡ ys
-new_keys true xs ys zs e h = absurd cc
-new_keys false xs ys zs e h = h
-
-pub keys_more : (fonts newer : List FontDef) (keys new : List ℤ) (f : FontDef) (k : ℤ) → keys ≡ map number_of (map font_view fonts) → newer ≡ fonts ++ f ∷ [] → f.k ≡ k → new ≡ keys ++ k ∷ [] → new ≡ map number_of (map font_view newer)
-keys_more fonts newer keys new f k e w i h =
+pub numbers_more : (fonts newer : List FontDef) (keys new : List ℤ) (f : FontDef) (k : ℤ) → keys ≡ map number_of (map font_view fonts) → newer ≡ fonts ++ f ∷ [] → f.k ≡ k → new ≡ keys ++ k ∷ [] → new ≡ map number_of (map font_view newer)
+numbers_more fonts newer keys new f k e w i h =
     h ∙ ap (λ (l : List ℤ). l ++ k ∷ []) e ∙ ap (λ (n : ℤ). map number_of (map font_view fonts) ++ n ∷ []) (sym i)
     ∙ sym (map-append number_of (map font_view fonts) (font_view f ∷ [])) ∙ ap (map number_of) (sym (map-append font_view fonts (f ∷ []))) ∙ ap (λ (l : List FontDef). map number_of (map font_view l)) (sym w)
 

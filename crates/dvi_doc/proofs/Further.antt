@@ -1,5 +1,5 @@
 -- One command further in each part of a file, and what is wrong where it doesn't go on.
-use Rattle.std.proofs.Common.{◌≡◌, ◌≤◌, ◌<◌, ◌+◌, ◌-◌, ℕ, ℤ, pos, inl, List, [], ◌∷◌, ◌++◌, map, take, drop, refl, sym, ap, subst, ◌∙◌, arith, slice_range}
+use Rattle.std.proofs.Common.{◌⊎◌, inr, ◌≡◌, ◌≤◌, ◌<◌, ◌+◌, ◌-◌, ℕ, ℤ, pos, inl, List, [], ◌∷◌, ◌++◌, map, take, drop, refl, sym, ap, subst, ◌∙◌, arith, slice_range}
 use Rattle.std.proofs.lemmas.List.{append_assoc, append-nil}
 use Rattle.dvi_ops.specs.Command.{Command, Definition, Preamble, Postamble}
 use Rattle.dvi_ops.specs.Command.Command.{Bop, Eop, Pre, Post, PostPost, FntDef}
@@ -12,14 +12,16 @@ use Rattle.dvi_ops.specs.declared.cmd.Tail.{Tail}
 use Rattle.dvi_ops.specs.Placed.{Placed, Lexes}
 use Rattle.dvi_doc.specs.Document.{placed, put_definition, definitions_of}
 use Rattle.dvi_doc.specs.Grammar.{IsFiller, IsInner, AllFillers, AllInner}
-use Rattle.dvi_doc.specs.Order.{Reading, reading, Reaches, SpelledTo, MayStand, IsOutside, IsPaged, IsEnding, IsOpen}
+use Rattle.dvi_doc.specs.Order.{Meets, NamesLast, Reading, reading, Reaches, SpelledTo, MayStand, IsOutside, IsPaged, IsEnding, IsOpen}
 use Rattle.dvi_doc.specs.Order.Part.{Between, Inside, Behind}
-use Rattle.dvi_doc.specs.Faults.{TrailerAt, IsAtEnd, IsBadOrder}
+use Rattle.dvi_doc.specs.declared.fault.DocFault.{DocFault}
+use Rattle.dvi_doc.specs.declared.fault.DocFault.TheVariants as fault
+use Rattle.dvi_doc.specs.PartFaults.{BackFault}
+use Rattle.dvi_doc.specs.Faults.{FaultIn, TrailerAt, IsBadOrder}
 use Rattle.dvi_doc.specs.Steps.{EndsAt}
 use Rattle.dvi_doc.proofs.Lexing.{lex_more}
 use Rattle.dvi_doc.proofs.Leading.{filler_between, filler_behind, inner_inside}
 use Rattle.dvi_doc.proofs.Reached.{reach_more}
-use Rattle.dvi_doc.proofs.Trailers.{one_trailer}
 
 -- ---- reading goes on
 
@@ -65,14 +67,27 @@ not_filler cmd.Nop n d h = n refl
 not_filler (cmd.FntDef f) n d h = d f refl
 not_filler _ n d h = h
 
--- no filler, and no post_post before the trailer's
-pub not_ending : (bytes : List ℕ) (at ends : ℕ) (c : Cmd) → (IsFiller (view c) → ⊥) → at < ends → TrailerAt bytes ends → IsEnding (view c) × IsAtEnd bytes at (view c) → ⊥
-not_ending bytes at ends (cmd.PostPost back id) n b t h = omega (arith, one_trailer bytes at ends h.1 t)
-not_ending bytes at ends _ n b t h = n h.0
+-- no filler: post_post, or what may not stand behind post
+ends_or : (c : Cmd) → (IsFiller (view c) → ⊥) → ((back : ℕ) × (id : ℕ) × (view c ≡ PostPost back id)) ⊎ (IsEnding (view c) → ⊥)
+ends_or (cmd.PostPost back id) n = inl (back, id, refl)
+ends_or _ n = inr n
+
+pub not_ending : (bytes : List ℕ) (at end ends : ℕ) (last : ℤ) (post : ℕ) (c : Cmd) → (IsFiller (view c) → ⊥) → at < ends → TrailerAt bytes ends → Reaches bytes at (reading Behind last post) → SpelledTo bytes at end (view c) → IsBadOrder bytes at
+not_ending bytes at end ends last post c n b t h s =
+    elim (ends_or c n) [
+      | inl x ↦ inr (inl (reading Behind last post, x.0, x.1, (h, end, subst (λ (k : Command). SpelledTo bytes at end k) x.2 s), ends, t, b))
+      | inr x ↦ inl (reading Behind last post, view c, (h, end, s), x)
+    ]
+
+-- bop or post names another bop than the last one
+pub back_fault : (bytes : List ℕ) (at end : ℕ) (last back : ℤ) (c : Command) (e : DocFault) → IsOutside c → (NamesLast last c → back ≡ last) → Reaches bytes at (reading Between last 0) → SpelledTo bytes at end c → BackFault at back last e → FaultIn bytes e
+back_fault bytes at end last back c (fault.BadBackPointer place) o n h s f =
+    (reading Between last 0, c, subst (λ (k : ℕ). Meets bytes k (reading Between last 0) c) (sym f.0) (h, end, s), o, λ x. f.1 (n x))
+back_fault bytes at end last back c _ o n h s f = absurd f
 
 -- the trailer's post_post stands where it may not
 pub bad_end : (bytes : List ℕ) (at ends : ℕ) (r : Reading) → EndsAt bytes ends → at ≡ ends → Reaches bytes at r → ((back : ℕ) → MayStand r.part (PostPost back 2) → ⊥) → IsBadOrder bytes ends
-bad_end bytes at ends r e is h n = inl (r, PostPost e.1 2, (subst (λ (k : ℕ). Reaches bytes k r) is h, ends + 6, e.2), λ x. n e.1 x.0)
+bad_end bytes at ends r e is h n = inl (r, PostPost e.1 2, (subst (λ (k : ℕ). Reaches bytes k r) is h, ends + 6, e.2), λ x. n e.1 x)
 
 -- ---- definitions
 

@@ -13,9 +13,10 @@ use Rattle.dvi_ops.specs.View.{def_view, head_view, tail_view}
 use Rattle.dvi_ops.specs.Placed.{Placed, Lexes}
 use Rattle.dvi_doc.specs.Document.{placed, PageOf, Item, File, Document, between, pages_of, document_of}
 use Rattle.dvi_doc.specs.Document.Item.{Filler, Paged}
-use Rattle.dvi_doc.specs.Grammar.{AllInner, AllItems, first_place, IsFile, IsDoc, AreFonts, AllAmong, SameUnits, DefinesTwice, IsName, IsSize}
+use Rattle.dvi_doc.specs.Grammar.{AllInner, AllItems, first_place, IsFile, IsDoc, AreFonts, AllAmong, SameUnits, DefinesTwice, IsNamed, IsSized}
 use Rattle.dvi_doc.specs.View.{Outline, outline, page_view, IsRead}
-use Rattle.dvi_doc.specs.Faults.{FaultIn, FontFault, Differs, TailFault, SomeFont}
+use Rattle.dvi_doc.specs.Faults.{FaultIn, FontFault, SomeFont}
+use Rattle.dvi_doc.specs.PartFaults.{Differs, TailFault}
 use Rattle.dvi_doc.specs.Steps.{FoundParts}
 use Rattle.dvi_doc.specs.declared.parts.Parts.{Parts}
 use Rattle.dvi_doc.specs.declared.fault.DocFault.{DocFault}
@@ -23,8 +24,8 @@ use Rattle.dvi_doc.specs.declared.fault.DocFault.TheVariants as fault
 
 pub font_fault : (bytes : List ℕ) (p : Parts) (e : DocFault) → FoundParts bytes p → FontFault (map def_view p.fonts.items) e → FaultIn bytes e
 font_fault bytes p (fault.FontTwice k) f h = (f.0, f.1, subst (λ (ds : List Definition). DefinesTwice ds k) f.2.4 h)
-font_fault bytes p (fault.BadName k) f h = (f.0, f.1, subst (λ (ds : List Definition). SomeFont ds k (λ d. IsName d.name)) f.2.4 h)
-font_fault bytes p (fault.BadSize k) f h = (f.0, f.1, subst (λ (ds : List Definition). SomeFont ds k (λ d. IsSize d.size × IsSize d.design)) f.2.4 h)
+font_fault bytes p (fault.BadName k) f h = (f.0, f.1, subst (λ (ds : List Definition). SomeFont ds k IsNamed) f.2.4 h)
+font_fault bytes p (fault.BadSize k) f h = (f.0, f.1, subst (λ (ds : List Definition). SomeFont ds k IsSized) f.2.4 h)
 font_fault bytes p fault.OutOfMemory f h = tt
 font_fault bytes p _ f h = absurd h
 

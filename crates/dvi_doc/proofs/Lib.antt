@@ -7,5 +7,4 @@ pub mod Refuted
 pub mod Further
 pub mod Gathered
 pub mod Defined
-pub mod Names
 pub mod Judged

@@ -9,13 +9,13 @@ use Rattle.dvi_ops.specs.Spelling.{Spell, byte_at}
 use Rattle.dvi_ops.specs.Laws.{OneSpelling}
 use Rattle.dvi_ops.specs.View.{NoSpelling}
 use Rattle.dvi_doc.specs.Document.{File, Document}
-use Rattle.dvi_doc.specs.Grammar.{IsFile, IsDoc, NoDoc, IsName, IsSize, DefinesTwice, SameUnits}
+use Rattle.dvi_doc.specs.Grammar.{IsFile, IsDoc, NoDoc, IsNamed, DefinesTwice, SameUnits, IsSized}
 use Rattle.dvi_doc.specs.Order.{SpelledTo, IsPre, at_start}
 use Rattle.dvi_doc.specs.Faults.{InFile, SomeFont, FaultIn, NoneBut}
 use Rattle.dvi_doc.specs.declared.fault.DocFault.{DocFault}
 use Rattle.dvi_doc.specs.declared.fault.DocFault.TheVariants as fault
 use Rattle.dvi_doc.proofs.Reached.{reach_start, goes_on, spells_on, fits_on}
-use Rattle.dvi_doc.proofs.Trailers.{file_trailer, one_trailer, not_passed, at_end}
+use Rattle.dvi_doc.proofs.Trailers.{file_trailer, one_trailer, not_passed, end_there}
 use Rattle.dvi_doc.proofs.OneFile.{same_document}
 
 some_bytes : (c : Command) (front : List ℕ) → Spell c front → 0 < length front
@@ -74,10 +74,16 @@ refute one bytes (fault.BadPostPointer at) h = λ doc d. h.5 (fits_on one bytes 
 refute one bytes (fault.BadBackPointer at) h = λ doc d. h.4 (fits_on one bytes d.0 at h.0 h.1 d.1 h.2).1
 refute one bytes (fault.BadOrder at) h = λ doc d.
     elim h [
-      | inl x ↦ x.3 ((fits_on one bytes d.0 at x.0 x.1 d.1 x.2).0, at_end one bytes d.0 at x.0 x.1 d.1 x.2)
-      | inr x ↦
-          let same = one_trailer bytes at d.0.ends x.0 (file_trailer bytes d.0 d.1).0 in
-          not_passed one bytes d.0 x.1 x.4 x.2 x.3 d.1 x.5 x.6 (omega (arith, same, x.7)) (omega (arith, same, x.8))
+      | inl x ↦ x.3 (fits_on one bytes d.0 at x.0 x.1 d.1 x.2).0
+      | inr y ↦ elim y [
+        | inl x ↦
+            let same = one_trailer bytes x.4 d.0.ends x.5 (file_trailer bytes d.0 d.1).0 in
+            let here = end_there one bytes d.0 at x.3.1 x.1 x.2 x.0 d.1 x.3.0 x.3.2 in
+            omega (arith, same, here, x.6)
+        | inr x ↦
+            let same = one_trailer bytes at d.0.ends x.0 (file_trailer bytes d.0 d.1).0 in
+            not_passed one bytes d.0 x.1 x.4 x.2 x.3 d.1 x.5 x.6 (omega (arith, same, x.7)) (omega (arith, same, x.8))
+      ]
     ]
 refute one bytes (fault.Undefined at) h = λ doc d. spells_on one bytes d.0 at h.0 d.1 h.1 h.3
 refute one bytes (fault.Short at) h = λ doc d. spells_on one bytes d.0 at h.0 d.1 h.1 h.3
@@ -86,11 +92,11 @@ refute one bytes (fault.FontDiffers k) h = λ doc d.
     let x = in_doc one bytes doc (λ y. SomeFont y.before k (λ z. Contains y.fonts z)) d h in
     x.3 (member (λ z. Contains doc.fonts z) doc.before x.0 d.3.1 x.1)
 refute one bytes (fault.BadName k) h = λ doc d.
-    let x = in_doc one bytes doc (λ y. SomeFont y.fonts k (λ z. IsName z.name)) d h in
-    x.3 (member (λ z. IsName z.name) doc.fonts x.0 d.3.0.1 x.1)
+    let x = in_doc one bytes doc (λ y. SomeFont y.fonts k IsNamed) d h in
+    x.3 (member IsNamed doc.fonts x.0 d.3.0.1 x.1)
 refute one bytes (fault.BadSize k) h = λ doc d.
-    let x = in_doc one bytes doc (λ y. SomeFont y.fonts k (λ z. IsSize z.size × IsSize z.design)) d h in
-    x.3 (member (λ z. IsSize z.size × IsSize z.design) doc.fonts x.0 d.3.0.2 x.1)
+    let x = in_doc one bytes doc (λ y. SomeFont y.fonts k IsSized) d h in
+    x.3 (member IsSized doc.fonts x.0 d.3.0.2 x.1)
 refute one bytes (fault.PageCount found told) h = λ doc d.
     let x = in_doc one bytes doc (λ y. (found ≡ length y.pages % 65536) × (told ≡ y.tail.pages) × (found ≡ told → ⊥)) d h in
     x.2 (x.0 ∙ d.3.2 ∙ sym x.1)

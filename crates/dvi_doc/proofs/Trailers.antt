@@ -7,17 +7,19 @@ use Rattle.std.proofs.lemmas.List.{append_assoc, append-nil, get_or-append_right
 use Rattle.std.proofs.lemmas.List.Folds.{drop_split}
 use Rattle.dvi_ops.specs.Command.{Command}
 use Rattle.dvi_ops.specs.Command.Command.{Pre, Post, PostPost}
-use Rattle.dvi_ops.specs.Spelling.{Spell, meaning, low, motion, high, byte_at, unsigned, fixed_len, text_len}
+use Rattle.dv_base.specs.Numbers.{unsigned}
+use Rattle.dvi_ops.specs.Spelling.{Spell, meaning, low, motion, high, byte_at, fixed_len, text_len}
 use Rattle.byteorder.specs.Endian.{big_number}
 use Rattle.byteorder.specs.Numbers.{big_from-append}
 use Rattle.dvi_ops.specs.Laws.{OneSpelling}
 use Rattle.dvi_ops.specs.Placed.{Placed, Lexes}
 use Rattle.dvi_doc.specs.Document.{placed, File, between, commands_of}
 use Rattle.dvi_doc.specs.Grammar.{IsFill, IsFile}
-use Rattle.dvi_doc.specs.Order.{Reading, Part, reading, at_start, after, Leads, IsOpen, MayStand, Reaches, SpelledTo, Meets}
+use Rattle.dvi_doc.specs.Order.{Reading, Part, reading, at_start, after, Leads, IsOpen, MayStand, Reaches, SpelledTo}
 use Rattle.dvi_doc.specs.Order.Part.{Past}
 use Rattle.dvi_doc.proofs.Leading.{file_leads, past_file, leads_split}
-use Rattle.dvi_doc.specs.Faults.{TrailerAt, IsAtEnd, FillsFrom}
+use Rattle.dvi_doc.specs.Faults.{TrailerAt}
+use Rattle.dvi_doc.specs.PartFaults.{FillsFrom}
 use Rattle.dvi_doc.proofs.Lexing.{lex_split, follow, range_len}
 use Rattle.dvi_doc.proofs.Reached.{split_at}
 
@@ -186,11 +188,6 @@ end_there one bytes f at end back id r h k s =
           let end = leads_split (commands_of f) (x.0 ∷ x.1) at_start (past_file f) r more all in
           absurd end.0.0
     ]
-
-pub at_end : OneSpelling → (bytes : List ℕ) (f : File) (at : ℕ) (r : Reading) (c : Command) → IsFile bytes f → Meets bytes at r c → IsAtEnd bytes at c
-at_end one bytes f at r (PostPost back id) h m =
-    subst (λ (n : ℕ). TrailerAt bytes n) (sym (end_there one bytes f at m.1 back id r h m.0 m.2)) (file_trailer bytes f h).0
-at_end one bytes f at r _ h m = tt
 
 -- ---- what the code finds at the end
 

@@ -1,13 +1,13 @@
 -- What each fault of a document says of the bytes. Where a fault's sentence is true, the bytes are no document.
-use Rattle.std.specs.Prelude.{◌≡◌, ◌<◌, ◌≤◌, ◌+◌, ◌-◌, ◌%◌, ◌⊎◌, ℕ, ℤ, List, length}
+use Rattle.std.specs.Prelude.{◌≡◌, ◌<◌, ◌≤◌, ◌+◌, ◌%◌, ◌⊎◌, ℕ, ℤ, List, length}
 use Rattle.std.specs.List.{Contains}
-use Rattle.dvi_ops.specs.Command.{Command, Definition, Preamble, Postamble}
+use Rattle.dvi_ops.specs.Command.{Command, Definition, Preamble}
 use Rattle.dvi_ops.specs.Command.Command.{Pre, PostPost}
 use Rattle.dvi_ops.specs.Spelling.{byte_at}
 use Rattle.dvi_ops.specs.View.{FaultAt, NoSpelling}
 use Rattle.dvi_ops.specs.declared.cmd.OpFault.TheVariants as op
 use Rattle.dvi_doc.specs.Document.{Document, File, document_of}
-use Rattle.dvi_doc.specs.Grammar.{IsFile, IsName, IsSize, Defines, DefinesTwice, SameUnits}
+use Rattle.dvi_doc.specs.Grammar.{IsFile, IsNamed, IsSized, DefinesTwice, SameUnits}
 use Rattle.dvi_doc.specs.Order.{Reading, Reaches, Meets, SpelledTo, MayStand, NamesLast}
 use Rattle.dvi_doc.specs.Order.Part.{Behind}
 use Rattle.dvi_doc.specs.declared.fault.DocFault.{DocFault}
@@ -25,17 +25,13 @@ IsBadId bytes at =
     ((at ≡ 1) × (head : Preamble) × (end : ℕ) × SpelledTo bytes 0 end (Pre head) × (head.id ≡ 2 → ⊥))
     ⊎ ((place : ℕ) × (at ≡ place + 5) × TrailerAt bytes place × (byte_at bytes at ≡ 2 → ⊥))
 
--- post_post may only stand where the bytes 223 follow that the file ends with
-abbrev pub IsAtEnd : List ℕ → ℕ → Command → Type 0
-IsAtEnd bytes at (PostPost back id) = TrailerAt bytes at
-IsAtEnd bytes at _ = Unit {0}
-
--- A command stands there where it may not, or reading from the start never comes to the trailer's 249 at this place, since that
--- lies inside another command.
+-- A command stands there where it may not; or a post_post, and the trailer's stands further on; or the trailer's 249 at this place
+-- is one that reading from the start never comes to, since it lies inside another command.
 abbrev pub IsBadOrder : List ℕ → ℕ → Type 0
 IsBadOrder bytes at =
-    ((r : Reading) × (c : Command) × Meets bytes at r c × (MayStand r.part c × IsAtEnd bytes at c → ⊥))
-    ⊎ (TrailerAt bytes at × (place : ℕ) × (r : Reading) × (c : Command) × (end : ℕ) × Reaches bytes place r × SpelledTo bytes place end c × (place < at) × (at < end))
+    ((r : Reading) × (c : Command) × Meets bytes at r c × (MayStand r.part c → ⊥))
+    ⊎ (((r : Reading) × (back : ℕ) × (id : ℕ) × Meets bytes at r (PostPost back id) × (ends : ℕ) × TrailerAt bytes ends × (at < ends))
+    ⊎ (TrailerAt bytes at × (place : ℕ) × (r : Reading) × (c : Command) × (end : ℕ) × Reaches bytes place r × SpelledTo bytes place end c × (place < at) × (at < end)))
 
 -- The bytes are a file's, and this is true of what it says.
 abbrev pub InFile : List ℕ → (Document → Type 0) → Type 0
@@ -45,25 +41,11 @@ InFile bytes P = (f : File) × IsFile bytes f × P (document_of f)
 abbrev pub SomeFont : List Definition → ℤ → (Definition → Type 0) → Type 0
 SomeFont ds k P = (d : Definition) × Contains ds d × (d.k ≡ k) × (P d → ⊥)
 
--- what is wrong with one definition
-abbrev pub DefinitionFault : Definition → DocFault → Type 0
-DefinitionFault d (fault.BadName k) = (d.k ≡ k) × (IsName d.name → ⊥)
-DefinitionFault d (fault.BadSize k) = (d.k ≡ k) × (IsSize d.size × IsSize d.design → ⊥)
-DefinitionFault d _ = ⊥
-
--- what is wrong with one definition behind others
-abbrev pub AddFault : List Definition → Definition → DocFault → Type 0
-AddFault ds d (fault.FontTwice k) = (d.k ≡ k) × Defines ds k
-AddFault ds d (fault.BadName k) = (d.k ≡ k) × (IsName d.name → ⊥)
-AddFault ds d (fault.BadSize k) = (d.k ≡ k) × (IsSize d.size × IsSize d.design → ⊥)
-AddFault ds d fault.OutOfMemory = Unit {0}
-AddFault ds d _ = ⊥
-
 -- what is wrong with the postamble's definitions
 abbrev pub FontFault : List Definition → DocFault → Type 0
 FontFault ds (fault.FontTwice k) = DefinesTwice ds k
-FontFault ds (fault.BadName k) = SomeFont ds k (λ d. IsName d.name)
-FontFault ds (fault.BadSize k) = SomeFont ds k (λ d. IsSize d.size × IsSize d.design)
+FontFault ds (fault.BadName k) = SomeFont ds k IsNamed
+FontFault ds (fault.BadSize k) = SomeFont ds k IsSized
 FontFault ds fault.OutOfMemory = Unit {0}
 FontFault ds _ = ⊥
 
@@ -77,31 +59,14 @@ FaultIn bytes (fault.BadBackPointer at) = (r : Reading) × (c : Command) × Meet
 FaultIn bytes (fault.BadOrder at) = IsBadOrder bytes at
 FaultIn bytes (fault.Undefined at) = (r : Reading) × Reaches bytes at r × FaultAt bytes at (op.Undefined at) × NoSpelling bytes at
 FaultIn bytes (fault.Short at) = (r : Reading) × Reaches bytes at r × FaultAt bytes at (op.Short at) × NoSpelling bytes at
-FaultIn bytes (fault.FontTwice k) = InFile bytes (λ doc. DefinesTwice doc.fonts k)
+FaultIn bytes (fault.FontTwice k) = InFile bytes (λ doc. FontFault doc.fonts (fault.FontTwice k))
 FaultIn bytes (fault.FontDiffers k) = InFile bytes (λ doc. SomeFont doc.before k (λ d. Contains doc.fonts d))
-FaultIn bytes (fault.BadName k) = InFile bytes (λ doc. SomeFont doc.fonts k (λ d. IsName d.name))
-FaultIn bytes (fault.BadSize k) = InFile bytes (λ doc. SomeFont doc.fonts k (λ d. IsSize d.size × IsSize d.design))
+FaultIn bytes (fault.BadName k) = InFile bytes (λ doc. FontFault doc.fonts (fault.BadName k))
+FaultIn bytes (fault.BadSize k) = InFile bytes (λ doc. FontFault doc.fonts (fault.BadSize k))
 FaultIn bytes (fault.PageCount found told) =
     InFile bytes (λ doc. (found ≡ length doc.pages % 65536) × (told ≡ doc.tail.pages) × (found ≡ told → ⊥))
 FaultIn bytes fault.PostDiffers = InFile bytes (λ doc. SameUnits doc.head doc.tail → ⊥)
 FaultIn bytes fault.OutOfMemory = Unit {0}
-
--- all bytes from this place on are 223, and the one before it isn't
-abbrev pub FillsFrom : List ℕ → ℕ → Type 0
-FillsFrom bytes at =
-    (at ≤ length bytes) × ((place : ℕ) → at ≤ place → place < length bytes → byte_at bytes place ≡ 223)
-    × (0 < at → byte_at bytes (at - 1) ≡ 223 → ⊥)
-
--- one of the definitions has no equal one among the fonts
-abbrev pub Differs : List Definition → List Definition → DocFault → Type 0
-Differs fonts ds (fault.FontDiffers k) = SomeFont ds k (λ d. Contains fonts d)
-Differs fonts ds _ = ⊥
-
--- what is wrong with the numbers in post, where the file has so many pages
-abbrev pub TailFault : Preamble → Postamble → ℕ → DocFault → Type 0
-TailFault head tail pages (fault.PageCount found told) = (found ≡ pages % 65536) × (told ≡ tail.pages) × (found ≡ told → ⊥)
-TailFault head tail pages fault.PostDiffers = SameUnits head tail → ⊥
-TailFault head tail pages _ = ⊥
 
 -- true of the bytes where the fault is any but want of memory
 abbrev pub NoneBut : Type 0 → DocFault → Type 0

@@ -1,6 +1,7 @@
 -- When bytes are a document (DVI format, the order of commands in a file).
-use Rattle.std.specs.Prelude.{◌≡◌, ◌≤◌, ◌+◌, ◌%◌, ◌^◌, ◌⊎◌, ℕ, ℤ, pos, negsuc, ◌≤ℤ◌, ◌<ℤ◌, List, [], ◌∷◌, ◌++◌, length}
+use Rattle.std.specs.Prelude.{◌≡◌, ◌≤◌, ◌%◌, ◌^◌, ◌⊎◌, ℕ, ℤ, pos, negsuc, ◌≤ℤ◌, ◌<ℤ◌, List, [], ◌∷◌, ◌++◌, length}
 use Rattle.std.specs.List.{All, Contains}
+use Rattle.dv_base.specs.FontName.{IsFontName}
 use Rattle.dvi_ops.specs.Command.{Command, Definition, Preamble, Postamble}
 use Rattle.dvi_ops.specs.Command.Command.{Bop, Eop, Pre, Post, PostPost, Nop, FntDef}
 pub use Rattle.dvi_ops.specs.Placed.{Placed, Lexes}
@@ -54,17 +55,16 @@ IsFile bytes f =
 
 -- ---- what a document's parts owe one another
 
--- A font's name, its area included: 1 to 255 bytes, each a visible ASCII character other than '/'. (That is this program's own rule,
--- since the name becomes the name of a file.)
-abbrev pub IsNameByte : ℕ → Type 0
-IsNameByte byte = (33 ≤ byte) × (byte ≤ 126) × (byte ≡ 47 → ⊥)
-
-abbrev pub IsName : List ℕ → Type 0
-IsName name = (1 ≤ length name) × (length name ≤ 255) × All IsNameByte name
-
 -- a size, or a design size: 1 to 2^27 - 1 units
 abbrev pub IsSize : ℤ → Type 0
 IsSize size = (pos 1 ≤ℤ size) × (size <ℤ pos (2 ^ 27))
+
+-- the name, its area included, is one that a font may have; and so are the sizes
+abbrev pub IsNamed : Definition → Type 0
+IsNamed d = IsFontName d.name
+
+abbrev pub IsSized : Definition → Type 0
+IsSized d = IsSize d.size × IsSize d.design
 
 abbrev pub number_of : Definition → ℤ
 number_of d = d.k
@@ -82,7 +82,7 @@ DefinesTwice (d ∷ ds) k = ((d.k ≡ k) × Defines ds k) ⊎ DefinesTwice ds k
 -- The postamble's definitions: each number once, and names and sizes as they have to be.
 abbrev pub AreFonts : List Definition → Type 0
 AreFonts ds =
-    ((k : ℤ) → DefinesTwice ds k → ⊥) × All (λ d. IsName d.name) ds × All (λ d. IsSize d.size × IsSize d.design) ds
+    ((k : ℤ) → DefinesTwice ds k → ⊥) × All IsNamed ds × All IsSized ds
 
 -- each of the definitions stands among the fonts, equal in all fields
 abbrev pub AllAmong : List Definition → List Definition → Type 0

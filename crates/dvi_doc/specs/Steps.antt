@@ -1,4 +1,4 @@
--- What the steps of reading a document find: the pages, the postamble and both together.
+-- What the steps of reading a document find: the pages, the postamble and both together. No public clause cites this module.
 use Rattle.std.specs.Prelude.{◌≡◌, ◌≤◌, ◌+◌, ℕ, ℤ, pos, negsuc, Option, Some, None, List, ◌++◌, map, slice_range}
 use Rattle.dvi_ops.specs.Command.Command.{Eop, Post, PostPost}
 use Rattle.dvi_ops.specs.View.{def_view, head_view, tail_view}

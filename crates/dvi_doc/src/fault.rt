@@ -1,5 +1,8 @@
 //! Why bytes are no document.
+ghost use Rattle.std.specs.Prelude.{◌≡◌};
+ghost use Rattle.dvi_doc.specs.declared.fault.DocFault.TheVariants.{OutOfMemory};
 
+use std::alloc::{AllocError, AllocFailed};
 use thiserror::Error;
 
 /// Why bytes are no document. Places are counted from 0 at the first byte.
@@ -50,4 +53,20 @@ pub enum DocFault {
     /// Memory was refused.
     #[error("OutOfMemory")]
     OutOfMemory,
+}
+
+impl From<AllocError> for DocFault {
+    ghost from_gives = { λ _ e. e ≡ OutOfMemory };
+
+    fn from(_error: AllocError) -> Self {
+        DocFault::OutOfMemory
+    }
+}
+
+impl<T: Drop> From<AllocFailed<T>> for DocFault {
+    ghost from_gives = { λ _ e. e ≡ OutOfMemory };
+
+    fn from(_error: AllocFailed<T>) -> Self {
+        DocFault::OutOfMemory
+    }
 }

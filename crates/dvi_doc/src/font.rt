@@ -1,13 +1,13 @@
 //! One font definition, and whether it is as it should be.
-ghost use Rattle.std.specs.Prelude.{◌≡◌, IsTrue, ◌↔◌, IfOk, IfErr, MatchBool, MatchOption};
-ghost use Rattle.dv_base.specs.FileName.{text_of};
+ghost use Rattle.std.specs.Prelude.{◌≡◌, IsTrue, ◌↔◌, IfOk, IfErr, MatchBool};
 ghost use Rattle.dvi_ops.specs.View.{def_view};
-ghost use Rattle.dvi_doc.specs.Grammar.{IsName, IsNameByte, IsSize};
+ghost use Rattle.dv_base.specs.FontName.{IsFontName};
+ghost use Rattle.dvi_doc.specs.Grammar.{IsSize};
 ghost use Rattle.dvi_doc.specs.View.{font_view};
-ghost use Rattle.dvi_doc.specs.Faults.{DefinitionFault};
+ghost use Rattle.dvi_doc.specs.PartFaults.{DefinitionFault};
 
 use crate::fault::DocFault;
-use dv_base::FileName;
+use dv_base::{FileName, font_name};
 use dvi_ops::Def;
 
 /// What tells one font from another: its name, area included, and the three numbers of its definition. Sizes are in DVI units.
@@ -37,34 +37,9 @@ fn are_sizes(size: i32, design: i32) -> bool
     1 <= size && size <= LARGEST && 1 <= design && design <= LARGEST
 }
 
-/// Whether a byte may stand in a font's name: a visible ASCII character other than `/`.
-fn is_name_byte(byte: u8) -> bool
-    ensures { IsTrue result ↔ IsNameByte byte }
-{
-    33 <= byte && byte <= 126 && byte != b'/'
-}
-
-/// The name as a text; `None` exactly where it may not be a font's name.
-fn font_name(name: &[u8]) -> Option<FileName>
-    ensures { MatchOption result (IsName name.now → ⊥) (λ text. IsName name.now × (text_of text ≡ name.now)) }
-{
-    if name.is_empty() || name.len() > 255 {
-        return None;
-    }
-    for byte in name {
-        if !is_name_byte(*byte) {
-            return None;
-        }
-    }
-    match str::from_utf8(name) {
-        Ok(text) => FileName::new(text),
-        Err(_) => unreachable!(),
-    }
-}
-
 /// The font of a definition: `BadName` or `BadSize` where it isn't as it should be.
 pub fn font_of(def: Def<'_>) -> Result<FontDef, DocFault>
-    ensures found { IfOk result (λ f. (font_view f ≡ def_view def.entry) × IsName def.entry.name.now × IsSize def.entry.size × IsSize def.entry.design) }
+    ensures found { IfOk result (λ f. (font_view f ≡ def_view def.entry) × IsFontName def.entry.name.now × IsSize def.entry.size × IsSize def.entry.design) }
     ensures fault { IfErr result (DefinitionFault (def_view def.entry)) }
 {
     let Some(name) = font_name(def.name) else {

@@ -4,20 +4,20 @@ ghost use Rattle.std.specs.List.{Contains};
 ghost use Rattle.dvi_ops.specs.View.{def_view};
 ghost use Rattle.dvi_doc.specs.Grammar.{AreFonts, AllAmong, Defines};
 ghost use Rattle.dvi_doc.specs.View.{font_view};
-ghost use Rattle.dvi_doc.specs.Faults.{AddFault, FontFault, Differs};
+ghost use Rattle.dvi_doc.specs.Faults.{FontFault};
+ghost use Rattle.dvi_doc.specs.PartFaults.{AddFault, Differs};
 
 use crate::fault::DocFault;
 use crate::font::{FontDef, font_of, is_same};
-use dvi_ops::Def;
-use indexmap::IndexSet;
+use dvi_ops::{Def, FontNumbers};
 use std::alloc::Global;
 use std::marker::Model;
 
-/// Fonts in the order of their definitions, each number once. The place of a number in the set is that of its font.
+/// Fonts in the order of their definitions, each number once. The place of a number among the numbers is that of its font.
 #[derive(Drop)]
 pub struct Fonts {
     fonts: Vec<FontDef>,
-    numbers: IndexSet<i64>,
+    numbers: FontNumbers,
 }
 
 impl Model for Fonts {
@@ -30,7 +30,7 @@ impl Model for Fonts {
 
     ghost view = { λ f. map font_view f.fonts.items };
 
-    ghost invariant = { λ f. f.numbers.keys ≡ map number_of (map font_view f.fonts.items) };
+    ghost invariant = { λ f. f.numbers ≡ map number_of (map font_view f.fonts.items) };
 }
 
 impl Fonts {
@@ -41,7 +41,7 @@ impl Fonts {
     {
         let mut all = Fonts {
             fonts: Vec::new(alloc),
-            numbers: IndexSet::new(alloc),
+            numbers: FontNumbers::new(alloc),
         };
         for def in defs {
             all = all.with(*def)?;
@@ -60,15 +60,12 @@ impl Fonts {
             mut fonts,
             mut numbers,
         } = self;
-        match numbers.insert_full(def.k) {
-            Ok((_, true)) => {}
-            Ok((_, false)) => return Err(DocFault::FontTwice { k: def.k }),
-            Err(_) => return Err(DocFault::OutOfMemory),
+        let is_new = numbers.push(def.k)?;
+        if !is_new {
+            return Err(DocFault::FontTwice { k: def.k });
         }
-        match fonts.push(font) {
-            Ok(()) => Ok(Fonts { fonts, numbers }),
-            Err(_) => Err(DocFault::OutOfMemory),
-        }
+        fonts.push(font)?;
+        Ok(Fonts { fonts, numbers })
     }
 
     /// All of them.
@@ -82,7 +79,7 @@ impl Fonts {
     pub fn get(&self, k: i64) -> Option<&FontDef>
         ensures { MatchOption result (Defines self.now k → ⊥) (λ font. Contains self.now (font_view font.now) × (font.now.k ≡ k)) }
     {
-        let place = self.numbers.get_index_of(&k)?;
+        let place = self.numbers.place(k)?;
         Some(&self.fonts[place])
     }
 

@@ -8,7 +8,7 @@ ghost use Rattle.dvi_doc.specs.Faults.{FaultIn};
 ghost use Rattle.dvi_doc.specs.Steps.{EndsAt, FoundPage};
 
 use crate::fault::DocFault;
-use crate::step::read_command;
+use crate::step::{pass_command, read_command};
 use dvi_ops::{Cmd, Def};
 
 /// A page by its places: of its bop, of the first command behind that and of its eop. `counts` are the ten counts of its bop.
@@ -50,13 +50,17 @@ pub fn read_page<'a>(
 {
     let mut at = start;
     while at < ends {
+        if let Some(end) = pass_command(bytes, at, ends) {
+            at = end;
+            continue;
+        }
         let (cmd, end) = read_command(bytes, at, ends)?;
         match cmd {
             Cmd::Eop => return Ok((at, end)),
-            Cmd::FntDef(def) => match earlier.push(def) {
-                Ok(()) => at = end,
-                Err(_) => return Err(DocFault::OutOfMemory),
-            },
+            Cmd::FntDef(def) => {
+                earlier.push(def)?;
+                at = end;
+            }
             other => {
                 if !is_inner(&other) {
                     return Err(DocFault::BadOrder { at: at as u32 });

@@ -1,8 +1,9 @@
 //! The pages of a document, up to its postamble.
-ghost use Rattle.std.specs.Prelude.{◌≡◌, ◌≤◌, ◌^◌, length, negsuc, IfOk, IfErr, MatchBool};
+ghost use Rattle.std.specs.Prelude.{◌≡◌, ◌≤◌, ◌<◌, ◌^◌, length, negsuc, IfOk, IfErr, OnOk};
 ghost use Rattle.dvi_doc.specs.Order.{Reaches, reading};
 ghost use Rattle.dvi_doc.specs.Order.Part.{Between};
 ghost use Rattle.dvi_doc.specs.Faults.{FaultIn};
+ghost use Rattle.dvi_doc.specs.PartFaults.{BackFault};
 ghost use Rattle.dvi_doc.specs.Steps.{EndsAt, FoundBody, last_of};
 
 use crate::fault::DocFault;
@@ -26,13 +27,20 @@ pub struct Body<'a> {
     pub next: usize,
 }
 
-/// Whether a back pointer leads to the last bop, or is -1 where there is none.
-fn is_last(back: i32, last: Option<usize>) -> bool
-    ensures { MatchBool result (back ≡ last_of last) (back ≡ last_of last → ⊥) }
+/// That the back pointer of the bop or post at a place leads to the last bop, or is -1 where there is none.
+fn check_back(at: usize, back: i32, last: Option<usize>) -> Result<(), DocFault>
+    requires { at < 2 ^ 32 }
+    ensures last { OnOk result (back ≡ last_of last) }
+    ensures fault { IfErr result (BackFault at back (last_of last)) }
 {
-    match last {
+    let is_last = match last {
         None => back == -1,
         Some(place) => back >= 0 && back as usize == place,
+    };
+    if is_last {
+        Ok(())
+    } else {
+        Err(DocFault::BadBackPointer { at: at as u32 })
     }
 }
 
@@ -58,32 +66,24 @@ pub fn read_pages<'a>(
         let (cmd, end) = read_command(bytes, at, ends)?;
         match cmd {
             Cmd::Nop => at = end,
-            Cmd::FntDef(def) => match earlier.push(def) {
-                Ok(()) => at = end,
-                Err(_) => return Err(DocFault::OutOfMemory),
-            },
+            Cmd::FntDef(def) => {
+                earlier.push(def)?;
+                at = end;
+            }
             Cmd::Bop { counts, back } => {
-                if !is_last(back, last) {
-                    return Err(DocFault::BadBackPointer { at: at as u32 });
-                }
+                check_back(at, back, last)?;
                 let (eop, next) = read_page(bytes, end, ends, &mut earlier)?;
-                let page = Page {
+                pages.push(Page {
                     at: at as u32,
                     first: end as u32,
                     eop: eop as u32,
                     counts,
-                };
-                match pages.push(page) {
-                    Ok(()) => {}
-                    Err(_) => return Err(DocFault::OutOfMemory),
-                }
+                })?;
                 last = Some(at);
                 at = next;
             }
             Cmd::Post(tail) => {
-                if !is_last(tail.back, last) {
-                    return Err(DocFault::BadBackPointer { at: at as u32 });
-                }
+                check_back(at, tail.back, last)?;
                 return Ok(Body {
                     pages,
                     earlier,

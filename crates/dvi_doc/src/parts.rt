@@ -30,6 +30,8 @@ pub fn read_parts<'a>(alloc: Global, bytes: &'a [u8]) -> Result<Parts<'a>, DocFa
 {
     one_spelling();
     let (head, start) = read_preamble(bytes)?;
+    // The trailer comes before what it ends: only it tells where the commands stop and the bytes 223 begin, which read from the
+    // start would be a byte that begins a command.
     let (ends, back) = read_trailer(bytes)?;
     if start > ends {
         return Err(DocFault::BadOrder { at: ends as u32 });

@@ -30,10 +30,10 @@ pub fn read_postamble<'a>(
         let (cmd, end) = read_command(bytes, at, ends)?;
         match cmd {
             Cmd::Nop => at = end,
-            Cmd::FntDef(def) => match fonts.push(def) {
-                Ok(()) => at = end,
-                Err(_) => return Err(DocFault::OutOfMemory),
-            },
+            Cmd::FntDef(def) => {
+                fonts.push(def)?;
+                at = end;
+            }
             _ => return Err(DocFault::BadOrder { at: at as u32 }),
         }
     }

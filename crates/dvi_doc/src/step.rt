@@ -1,12 +1,15 @@
 //! One command further in a file whose end is known.
-ghost use Rattle.std.specs.Prelude.{◌≡◌, ◌≤◌, ◌<◌, ◌^◌, length, IfOk, IfErr};
+ghost use Rattle.std.specs.Prelude.{◌≡◌, ◌≤◌, ◌<◌, ◌^◌, [], length, IfOk, IfErr, IfSome};
+ghost use Rattle.dvi_ops.specs.Command.{Command};
+ghost use Rattle.dvi_doc.specs.Document.{put_definition};
+ghost use Rattle.dvi_doc.specs.Grammar.{IsInner};
 ghost use Rattle.dvi_ops.specs.View.{view};
 ghost use Rattle.dvi_doc.specs.Order.{Reading, Reaches, SpelledTo};
 ghost use Rattle.dvi_doc.specs.Faults.{FaultIn};
 ghost use Rattle.dvi_doc.specs.Steps.{EndsAt};
 
 use crate::fault::DocFault;
-use dvi_ops::{Cmd, OpFault, next_cmd};
+use dvi_ops::{Cmd, OpFault, next_cmd, pass};
 
 /// The command at a place that reading came to, and the place behind it, which isn't past the trailer's `post_post`.
 pub fn read_command(bytes: &[u8], at: usize, ends: usize) -> Result<(Cmd<'_>, usize), DocFault>
@@ -27,4 +30,16 @@ pub fn read_command(bytes: &[u8], at: usize, ends: usize) -> Result<(Cmd<'_>, us
         Err(OpFault::Undefined(place)) => Err(DocFault::Undefined { at: place as u32 }),
         Err(OpFault::Short(place)) => Err(DocFault::Short { at: place as u32 }),
     }
+}
+
+/// The place behind the command at a place, where it is one that a page may hold, without a text; `None` where it isn't, or isn't
+/// whole before the trailer's `post_post`.
+#[inline(always)]
+pub fn pass_command(bytes: &[u8], at: usize, ends: usize) -> Option<usize>
+    requires before { at < ends }
+    requires inside { ends ≤ length bytes.now }
+    ensures { IfSome result (λ end. (end ≤ ends) × (c : Command) × SpelledTo bytes.now at end c × IsInner c × (put_definition c [] ≡ [])) }
+{
+    let end = pass(bytes, at)?;
+    if end <= ends { Some(end) } else { None }
 }

@@ -2,7 +2,7 @@
 ghost use Rattle.std.specs.Prelude.{◌≡◌, ◌≤◌, ◌%◌, IfErr, OnOk};
 ghost use Rattle.dvi_ops.specs.View.{head_view, tail_view};
 ghost use Rattle.dvi_doc.specs.Grammar.{SameUnits};
-ghost use Rattle.dvi_doc.specs.Faults.{TailFault};
+ghost use Rattle.dvi_doc.specs.PartFaults.{TailFault};
 
 use crate::fault::DocFault;
 use dvi_ops::{Head, Tail};

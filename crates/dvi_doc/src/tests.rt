@@ -188,3 +188,28 @@ fn parts_of_a_document(rt: HostRuntime) -> Result<(), Fail> {
     assert_eq!(rt; doc.fonts().len(), 1);
     Ok(())
 }
+
+#[test]
+fn faults_in_words(rt: HostRuntime) -> Result<(), Fail> {
+    let names: [(DocFault, &str); 15] = [
+        (DocFault::NoPreamble, "NoPreamble"),
+        (DocFault::BadId { at: 1 }, "BadId"),
+        (DocFault::NoTrailer, "NoTrailer"),
+        (DocFault::BadPostPointer { at: 1 }, "BadPostPointer"),
+        (DocFault::BadBackPointer { at: 1 }, "BadBackPointer"),
+        (DocFault::BadOrder { at: 1 }, "BadOrder"),
+        (DocFault::Undefined { at: 1 }, "Undefined"),
+        (DocFault::Short { at: 1 }, "Short"),
+        (DocFault::FontTwice { k: 1 }, "FontTwice"),
+        (DocFault::FontDiffers { k: 1 }, "FontDiffers"),
+        (DocFault::BadName { k: 1 }, "BadName"),
+        (DocFault::BadSize { k: 1 }, "BadSize"),
+        (DocFault::PageCount { found: 1, told: 2 }, "PageCount"),
+        (DocFault::PostDiffers, "PostDiffers"),
+        (DocFault::OutOfMemory, "OutOfMemory"),
+    ];
+    for (fault, name) in names {
+        assert_eq!(rt; format!(in rt.alloc(); "{fault}")?.as_str(), name);
+    }
+    Ok(())
+}

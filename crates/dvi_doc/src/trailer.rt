@@ -2,7 +2,8 @@
 ghost use Rattle.std.specs.Prelude.{◌≡◌, ◌≤◌, ◌<◌, ◌+◌, ◌^◌, IfOk, IfErr, length};
 ghost use Rattle.dvi_ops.specs.Command.Command.{PostPost};
 ghost use Rattle.dvi_doc.specs.Order.{SpelledTo};
-ghost use Rattle.dvi_doc.specs.Faults.{TrailerAt, FaultIn, FillsFrom};
+ghost use Rattle.dvi_doc.specs.Faults.{TrailerAt, FaultIn};
+ghost use Rattle.dvi_doc.specs.PartFaults.{FillsFrom};
 
 use crate::fault::DocFault;
 use byteorder::{BigEndian, ByteOrder};

@@ -1,5 +1,6 @@
 use Rattle.std.proofs.Common.{arith, ◌≡◌, ◌∷◌, ◌++◌, [], inl, refl, sym, ap, subst, ◌∙◌, ℤ, pos, map, rules, FitsSigned, w32}
 use Rattle.std.proofs.lemmas.Int.{to_z-of_z}
+use Rattle.std.proofs.lemmas.Result.{err_from_is_err_and}
 use Rattle.std.proofs.lemmas.List.{map-append, append-nil}
 use Rattle.dvi_ops.specs.Command.{Command}
 use Rattle.dvi_ops.specs.Command.Command.{Nop, FntDef, Bop, Post}
@@ -9,7 +10,7 @@ use Rattle.dvi_doc.specs.Document.{put_definition}
 use Rattle.dvi_doc.specs.Order.{SpelledTo, Reaches, reading}
 use Rattle.dvi_doc.specs.Order.Part.{Between}
 use Rattle.dvi_doc.specs.Steps.{HasItems, last_of}
-use Rattle.dvi_doc.proofs.Further.{reach_between, reach_bop, reach_post, not_outside, bad_end}
+use Rattle.dvi_doc.proofs.Further.{reach_between, reach_bop, reach_post, not_outside, back_fault, bad_end}
 use Rattle.dvi_doc.proofs.Gathered.{filler_more, page_gathered}
 use Rattle.dvi_doc.proofs.pages.read_pages.Goals as goal
 
@@ -29,8 +30,8 @@ loop-at-preserved-in-Nop c =
       reached = reach_between bytes at end last Nop s tt i.reached;
     }
 
-pub loop-at-preserved-in-Ok : goal.loop-at-preserved-in-Ok
-loop-at-preserved-in-Ok c =
+pub loop-at-preserved-in-FntDef : goal.loop-at-preserved-in-FntDef
+loop-at-preserved-in-FntDef c =
     let f = c.in_ok-cmd.ensures.found in
     let i = c.loop-at.invariant in
     let bytes = c.args.bytes.now in
@@ -40,7 +41,7 @@ loop-at-preserved-in-Ok c =
     let d : Command = FntDef (def_view c.in-FntDef.def) in
     let s : SpelledTo bytes at end d = subst (λ (x : Cmd). SpelledTo bytes at end (view x)) c.in-FntDef.is f.0 in
     let more : map def_view c.push.new.self.items ≡ map def_view c.loop-at.earlier.items ++ put_definition d [] =
-    ap (map def_view) c.in-Ok.ensures.items ∙ map-append def_view c.loop-at.earlier.items (c.in-FntDef.def ∷ []) in
+    ap (map def_view) c.in_ok-push-in-FntDef.ensures.items ∙ map-append def_view c.loop-at.earlier.items (c.in-FntDef.def ∷ []) in
     record {
       onward = omega (arith, i.onward, f.0.0);
       inside = f.1;
@@ -48,21 +49,12 @@ loop-at-preserved-in-Ok c =
       reached = reach_between bytes at end last d s tt i.reached;
     }
 
-pub returns-then-not-is_last-clause-fault : goal.returns-then-not-is_last-clause-fault
-returns-then-not-is_last-clause-fault c =
-    let f = c.in_ok-cmd.ensures.found in
-    let bytes = c.args.bytes.now in
-    let fits : FitsSigned w32 c.in-Bop.back = search rules in
-    let names = rw (to_z-of_z w32 c.in-Bop.back fits) at c.if-not-is_last.ensures in
-    let s : SpelledTo bytes c.loop-at.at c.in_ok-cmd.end (Bop c.in-Bop.counts c.in-Bop.back) = subst (λ (x : Cmd). SpelledTo bytes c.loop-at.at c.in_ok-cmd.end (view x)) c.in-Bop.is f.0 in
-    (reading Between (last_of c.loop-at.last) 0, Bop c.in-Bop.counts c.in-Bop.back, (c.loop-at.invariant.reached, c.in_ok-cmd.end, s), tt, names)
-
 pub read_page-requires-clause-reached : goal.read_page-requires-clause-reached
 read_page-requires-clause-reached c =
     let f = c.in_ok-cmd.ensures.found in
     let bytes = c.args.bytes.now in
     let fits : FitsSigned w32 c.in-Bop.back = search rules in
-    let names = rw (to_z-of_z w32 c.in-Bop.back fits) at c.if-not-is_last.ensures in
+    let names = rw (to_z-of_z w32 c.in-Bop.back fits) at c.in_ok-check_back-in-Bop.ensures.last in
     let s : SpelledTo bytes c.loop-at.at c.in_ok-cmd.end (Bop c.in-Bop.counts c.in-Bop.back) = subst (λ (x : Cmd). SpelledTo bytes c.loop-at.at c.in_ok-cmd.end (view x)) c.in-Bop.is f.0 in
     (pos c.loop-at.at, reach_bop bytes c.loop-at.at c.in_ok-cmd.end (last_of c.loop-at.last) c.in-Bop.back c.in-Bop.counts s names c.loop-at.invariant.reached)
 
@@ -75,24 +67,15 @@ loop-at-preserved c =
     let end = c.in_ok-cmd.end in
     let last = last_of c.loop-at.last in
     let fits : FitsSigned w32 c.in-Bop.back = search rules in
-    let names = rw (to_z-of_z w32 c.in-Bop.back fits) at c.if-not-is_last.ensures in
+    let names = rw (to_z-of_z w32 c.in-Bop.back fits) at c.in_ok-check_back-in-Bop.ensures.last in
     let s : SpelledTo bytes at end (Bop c.in-Bop.counts c.in-Bop.back) = subst (λ (x : Cmd). SpelledTo bytes at end (view x)) c.in-Bop.is f.0 in
     let g = c.in_ok-eop-in-Bop.ensures.found in
     record {
       onward = omega (arith, i.onward, f.0.0, g.0, g.2.0);
       inside = g.1;
-      holds = page_gathered bytes c.args.start at end c.in_ok-eop-in-Bop.eop c.in_ok-eop-in-Bop.next c.args.ends c.in-Bop.counts c.in-Bop.back last _ c.loop-at.pages.items c.push-in-Bop.new.self.items c.loop-at.earlier.items c.read_page.new.earlier.items i.onward s names g refl c.in-Ok-push.ensures.items i.holds;
+      holds = page_gathered bytes c.args.start at end c.in_ok-eop-in-Bop.eop c.in_ok-eop-in-Bop.next c.args.ends c.in-Bop.counts c.in-Bop.back last _ c.loop-at.pages.items c.push-in-Bop.new.self.items c.loop-at.earlier.items c.read_page.new.earlier.items i.onward s names g refl c.in_ok-push-in-Bop.ensures.items i.holds;
       reached = g.4 (pos at) (reach_bop bytes at end last c.in-Bop.back c.in-Bop.counts s names i.reached);
     }
-
-pub returns-then-not-is_last-2-clause-fault : goal.returns-then-not-is_last-2-clause-fault
-returns-then-not-is_last-2-clause-fault c =
-    let f = c.in_ok-cmd.ensures.found in
-    let bytes = c.args.bytes.now in
-    let fits : FitsSigned w32 c.in-Post.tail.back = search rules in
-    let names = rw (to_z-of_z w32 c.in-Post.tail.back fits) at c.if-not-is_last-2.ensures in
-    let s : SpelledTo bytes c.loop-at.at c.in_ok-cmd.end (Post (tail_view c.in-Post.tail)) = subst (λ (x : Cmd). SpelledTo bytes c.loop-at.at c.in_ok-cmd.end (view x)) c.in-Post.is f.0 in
-    (reading Between (last_of c.loop-at.last) 0, Post (tail_view c.in-Post.tail), (c.loop-at.invariant.reached, c.in_ok-cmd.end, s), tt, names)
 
 pub returns-in-Post-clause-found : goal.returns-in-Post-clause-found
 returns-in-Post-clause-found c =
@@ -103,7 +86,7 @@ returns-in-Post-clause-found c =
     let tail = tail_view c.in-Post.tail in
     let last = last_of c.loop-at.last in
     let fits : FitsSigned w32 c.in-Post.tail.back = search rules in
-    let names : c.in-Post.tail.back ≡ last = rw (to_z-of_z w32 c.in-Post.tail.back fits) at c.if-not-is_last-2.ensures in
+    let names : c.in-Post.tail.back ≡ last = rw (to_z-of_z w32 c.in-Post.tail.back fits) at c.in_ok-check_back-in-Post.ensures.last in
     let s : SpelledTo bytes at c.in_ok-cmd.end (Post tail) = subst (λ (x : Cmd). SpelledTo bytes at c.in_ok-cmd.end (view x)) c.in-Post.is f.0 in
     let items : HasItems bytes c.args.start at c.loop-at.pages.items c.loop-at.earlier.items c.in-Post.tail.back =
     subst (λ (z : ℤ). HasItems bytes c.args.start at c.loop-at.pages.items c.loop-at.earlier.items z) (sym names) i.holds in
@@ -118,10 +101,36 @@ returns-in_default c =
         reading Between (last_of c.loop-at.last) 0,
         view c.in_ok-cmd.cmd,
         (c.loop-at.invariant.reached, c.in_ok-cmd.end, c.in_ok-cmd.ensures.found.0),
-        λ x. not_outside c.in_ok-cmd.cmd c.in_default.not-Nop c.in_default.not-Bop c.in_default.not-FntDef c.in_default.not-Post x.0,
+        λ x. not_outside c.in_ok-cmd.cmd c.in_default.not-Nop c.in_default.not-Bop c.in_default.not-FntDef c.in_default.not-Post x,
       );
     }
 
 pub returns-clause-fault : goal.returns-clause-fault
 returns-clause-fault c =
     bad_end c.args.bytes.now c.loop-at.at c.args.ends (reading Between (last_of c.loop-at.last) 0) c.requires.trailer (omega (arith, c.loop-at.invariant.inside, c.loop-at-test.false)) c.loop-at.invariant.reached (λ back h. h)
+
+pub returns-in_err-check_back-in-Bop-clause-fault : goal.returns-in_err-check_back-in-Bop-clause-fault
+returns-in_err-check_back-in-Bop-clause-fault c =
+    let p = err_from_is_err_and c.from_residual-in_err-check_back-in-Bop.result c.from_residual-in_err-check_back-in-Bop.ensures.1 in
+    let f = c.in_ok-cmd.ensures.found in
+    let bytes = c.args.bytes.now in
+    let at = c.loop-at.at in
+    let end = c.in_ok-cmd.end in
+    let bop = Bop c.in-Bop.counts c.in-Bop.back in
+    let fits : FitsSigned w32 c.in-Bop.back = search rules in
+    let wrong = rw (to_z-of_z w32 c.in-Bop.back fits) at c.in_err-check_back-in-Bop.ensures.fault in
+    let s : SpelledTo bytes at end bop = subst (λ (x : Cmd). SpelledTo bytes at end (view x)) c.in-Bop.is f.0 in
+    rw (p.1, p.2) (back_fault bytes at end (last_of c.loop-at.last) c.in-Bop.back bop c.in_err-check_back-in-Bop.field-0.0 tt (λ x. x) c.loop-at.invariant.reached s wrong)
+
+pub returns-in_err-check_back-in-Post-clause-fault : goal.returns-in_err-check_back-in-Post-clause-fault
+returns-in_err-check_back-in-Post-clause-fault c =
+    let p = err_from_is_err_and c.from_residual-in_err-check_back-in-Post.result c.from_residual-in_err-check_back-in-Post.ensures.1 in
+    let f = c.in_ok-cmd.ensures.found in
+    let bytes = c.args.bytes.now in
+    let at = c.loop-at.at in
+    let end = c.in_ok-cmd.end in
+    let post = Post (tail_view c.in-Post.tail) in
+    let fits : FitsSigned w32 c.in-Post.tail.back = search rules in
+    let wrong = rw (to_z-of_z w32 c.in-Post.tail.back fits) at c.in_err-check_back-in-Post.ensures.fault in
+    let s : SpelledTo bytes at end post = subst (λ (x : Cmd). SpelledTo bytes at end (view x)) c.in-Post.is f.0 in
+    rw (p.1, p.2) (back_fault bytes at end (last_of c.loop-at.last) c.in-Post.tail.back post c.in_err-check_back-in-Post.field-0.0 tt (λ x. x) c.loop-at.invariant.reached s wrong)

@@ -13,7 +13,7 @@ returns-then-start-ends-clause-fault c =
     let bytes = c.args.bytes.now in
     let pre = c.in_ok-head.ensures.found in
     let trailer = c.in_ok-ends.ensures.found in
-    inr (
+    inr (inr (
       trailer.0,
       0,
       at_start,
@@ -23,7 +23,7 @@ returns-then-start-ends-clause-fault c =
       pre.0,
       pre_first c.one_spelling.ensures bytes c.in_ok-ends.ends c.in_ok-head.start c.in_ok-ends.back (head_view c.in_ok-head.head) pre.0 trailer.1,
       c.if-start-ends.true,
-    )
+    ))
 
 pub read_pages-requires-clause-reached : goal.read_pages-requires-clause-reached
 read_pages-requires-clause-reached c =

@@ -1,4 +1,4 @@
-use Rattle.std.proofs.Common.{arith, ◌≡◌, ◌∷◌, ◌++◌, [], inl, sym, ap, subst, ◌∙◌, ℕ, map}
+use Rattle.std.proofs.Common.{arith, ◌≡◌, ◌∷◌, ◌++◌, [], sym, ap, subst, ◌∙◌, ℕ, map}
 use Rattle.std.proofs.lemmas.List.{map-append, append-nil}
 use Rattle.dvi_ops.specs.Command.{Command}
 use Rattle.dvi_ops.specs.Command.Command.{Nop, FntDef}
@@ -35,7 +35,7 @@ loop-at-preserved c =
     let d : Command = FntDef (def_view c.in-FntDef.def) in
     let s : SpelledTo bytes at end d = subst (λ (x : Cmd). SpelledTo bytes at end (view x)) c.in-FntDef.is f.0 in
     let more : map def_view c.push.new.self.items ≡ map def_view c.loop-at.fonts.items ++ put_definition d [] =
-    ap (map def_view) c.in-Ok.ensures.items ∙ map-append def_view c.loop-at.fonts.items (c.in-FntDef.def ∷ []) in
+    ap (map def_view) c.in_ok-push-in-FntDef.ensures.items ∙ map-append def_view c.loop-at.fonts.items (c.in-FntDef.def ∷ []) in
     record {
       onward = omega (arith, i.onward, f.0.0);
       inside = f.1;
@@ -50,12 +50,8 @@ returns-in_default c =
     let f = c.in_ok-cmd.ensures.found in
     record {
       found = tt;
-      fault = inl (
-        reading Behind last post,
-        view c.in_ok-cmd.cmd,
-        (c.loop-at.invariant.reached last post c.requires.reached.2, c.in_ok-cmd.end, f.0),
-        not_ending c.args.bytes.now c.loop-at.at c.args.ends c.in_ok-cmd.cmd (not_filler c.in_ok-cmd.cmd c.in_default.not-Nop c.in_default.not-FntDef) c.loop-at-test.true c.requires.trailer.0,
-      );
+      fault = not_ending c.args.bytes.now c.loop-at.at c.in_ok-cmd.end c.args.ends last post c.in_ok-cmd.cmd (not_filler c.in_ok-cmd.cmd c.in_default.not-Nop c.in_default.not-FntDef) c.loop-at-test.true c.requires.trailer.0
+          (c.loop-at.invariant.reached last post c.requires.reached.2) f.0;
     }
 
 pub returns-clause-found : goal.returns-clause-found

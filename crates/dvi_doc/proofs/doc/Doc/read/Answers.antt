@@ -3,7 +3,8 @@ use Rattle.std.proofs.lemmas.Result.{err_from_is_err_and}
 use Rattle.dvi_ops.specs.View.{def_view}
 use Rattle.dvi_ops.specs.declared.cmd.Def.{Def}
 use Rattle.dvi_doc.specs.Grammar.{AllAmong}
-use Rattle.dvi_doc.specs.Faults.{FaultIn, FontFault, Differs}
+use Rattle.dvi_doc.specs.Faults.{FaultIn, FontFault}
+use Rattle.dvi_doc.specs.PartFaults.{Differs}
 use Rattle.dvi_doc.proofs.Judged.{font_fault, differs_fault, tail_fault, doc_found}
 use Rattle.dvi_doc.proofs.Refuted.{refute}
 use Rattle.dvi_doc.proofs.doc.Doc.read.Goals as goal

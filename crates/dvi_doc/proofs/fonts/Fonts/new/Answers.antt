@@ -3,7 +3,7 @@ use Rattle.std.proofs.lemmas.Result.{err_from_is_err_and}
 use Rattle.dvi_ops.specs.Command.{Definition}
 use Rattle.dvi_ops.specs.View.{def_view}
 use Rattle.dvi_ops.specs.declared.cmd.Def.{Def}
-use Rattle.dvi_doc.specs.Faults.{AddFault}
+use Rattle.dvi_doc.specs.PartFaults.{AddFault}
 use Rattle.dvi_doc.proofs.Defined.{all_fault, viewed_split}
 use Rattle.dvi_doc.proofs.fonts.Fonts.new.Goals as goal
 

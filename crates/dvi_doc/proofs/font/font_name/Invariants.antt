@@ -1,6 +1,0 @@
-use Rattle.std.proofs.Common.{◌<◌, ℕ, slice_index_or}
-use Rattle.dvi_doc.specs.Grammar.{IsNameByte}
-use Rattle.dvi_doc.proofs.font.font_name.Given as goal
-
-abbrev pub invariant-loop-byte : goal.invariant-loop-byte
-invariant-loop-byte l = (k : ℕ) (d : ℕ) → k < l.byte-index → IsNameByte (slice_index_or l.name k d)
