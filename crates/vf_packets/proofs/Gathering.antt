@@ -23,11 +23,11 @@ use Rattle.vf_packets.proofs.Locating.{middle_is}
 
 -- counts of codes
 
-times_here : (code : ℕ) (p : CharacterPacket) (ps : List CharacterPacket) → p.code ≡ code → times code (p ∷ ps) ≡ 1 + times code ps
+pub times_here : (code : ℕ) (p : CharacterPacket) (ps : List CharacterPacket) → p.code ≡ code → times code (p ∷ ps) ≡ 1 + times code ps
 unfolding times
 times_here code p ps e = cond-true (nat_eq p.code code) _ _ (grind (arith, nat_tests))
 
-times_other : (code : ℕ) (p : CharacterPacket) (ps : List CharacterPacket) → p.code ≢ code → times code (p ∷ ps) ≡ times code ps
+pub times_other : (code : ℕ) (p : CharacterPacket) (ps : List CharacterPacket) → p.code ≢ code → times code (p ∷ ps) ≡ times code ps
 unfolding times
 times_other code p ps e = cond-false (nat_eq p.code code) _ _ (grind (arith, nat_tests))
 
@@ -139,7 +139,7 @@ is_found : Option (CharacterPacket × List ℕ) → ℕ
 is_found None = 0
 is_found (Some r) = 1
 
-none_found : (p : CharacterPacket) (zs : List ℕ) → ◌≡◌ {A = Option (CharacterPacket × List ℕ)} None (Some (p, zs)) → ⊥
+pub none_found : (p : CharacterPacket) (zs : List ℕ) → ◌≡◌ {A = Option (CharacterPacket × List ℕ)} None (Some (p, zs)) → ⊥
 unfolding is_found
 none_found p zs e = absurd (omega (arith, ap is_found e))
 
@@ -152,13 +152,13 @@ unfolding rest_of_some
 same_rest p q ys zs e = ap rest_of_some e
 
 -- the packets that come next
-record Next (ys : List ℕ) (ps qs : List CharacterPacket) (end : List ℕ) : Type 0 where
+pub record Next (ys : List ℕ) (ps qs : List CharacterPacket) (end : List ℕ) : Type 0 where
   pub more : List CharacterPacket
   pub joined : qs ≡ ps ++ more
   pub read : Packets ys more end
 
 -- Packets of the same bytes agree, as far as both go.
-next : (xs : List ℕ) (ps : List CharacterPacket) (ys : List ℕ) (qs : List CharacterPacket) (end : List ℕ) → packet_at end ≡ None → Packets xs ps ys → Packets xs qs end → Next ys ps qs end
+pub next : (xs : List ℕ) (ps : List CharacterPacket) (ys : List ℕ) (qs : List CharacterPacket) (end : List ℕ) → packet_at end ≡ None → Packets xs ps ys → Packets xs qs end → Next ys ps qs end
 unfolding Packets
 next xs [] ys qs end n s t = let P : List ℕ → Type 0 = λ v. Packets v qs end in record { more = qs; joined = refl; read = subst P s t }
 next xs (p ∷ ps) ys [] end n s t = absurd (none_found p s.0 (sym n ∙ ap packet_at (sym t) ∙ s.1))

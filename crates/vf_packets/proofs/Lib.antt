@@ -4,3 +4,4 @@ pub mod Numbered
 pub mod Defined
 pub mod Locating
 pub mod Gathering
+pub mod OneFont

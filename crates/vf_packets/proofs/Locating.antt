@@ -9,7 +9,7 @@ use Rattle.dvi_ops.specs.Command.Command.{FntDef}
 use Rattle.dvi_ops.specs.Spelling.{Spell, RunsPast}
 use Rattle.dvi_ops.specs.Laws.{OneSpelling}
 use Rattle.dvi_ops.specs.View.{NoSpelling}
-use Rattle.vf_packets.specs.Names.{IsName}
+use Rattle.dv_base.specs.FontName.{IsFontName}
 use Rattle.vf_packets.specs.Font.{LocalFont, VirtualFont, Has, Apart}
 use Rattle.vf_packets.specs.Packets.{CharacterPacket, Packets}
 use Rattle.vf_packets.specs.File.{HasPreamble, body_at, IsDefinitionByte, Definitions, local_of, IsVf}
@@ -107,11 +107,11 @@ pub map-append : (ds es : List Definition) → map local_of (ds ++ es) ≡ map l
 map-append [] es = refl
 map-append (d ∷ ds) es = ap (λ ls. local_of d ∷ ls) (map-append ds es)
 
-named_push : (ds : List Definition) (d : Definition) → AllByRecursion (λ e. IsName e.name) ds → IsName d.name → AllByRecursion (λ e. IsName e.name) (ds ++ d ∷ [])
+named_push : (ds : List Definition) (d : Definition) → AllByRecursion (λ e. IsFontName e.name) ds → IsFontName d.name → AllByRecursion (λ e. IsFontName e.name) (ds ++ d ∷ [])
 named_push [] d a n = (n, tt)
 named_push (e ∷ ds) d a n = (a.0, named_push ds d a.1 n)
 
-named_middle : (ds es : List Definition) (d : Definition) → AllByRecursion (λ e. IsName e.name) (ds ++ d ∷ es) → IsName d.name
+named_middle : (ds es : List Definition) (d : Definition) → AllByRecursion (λ e. IsFontName e.name) (ds ++ d ∷ es) → IsFontName d.name
 named_middle [] es d a = a.0
 named_middle (e ∷ ds) es d a = named_middle ds es d a.1
 
@@ -125,7 +125,7 @@ defined_more bytes ds at to d r h l b s = record {
 
 -- a definition that is taken
 pub local_more : (bytes : List ℕ) (locals new : List LocalFont) (at to : ℕ) (d : Definition) → LocalsTo bytes locals at → at < to → to ≤ length bytes → IsDefinitionByte (slice_index bytes at) → Spell (FntDef d) (slice_range bytes at to) →
-    new ≡ locals ++ local_of d ∷ [] → (Has locals d.k → ⊥) → IsName d.name → LocalsTo bytes new to
+    new ≡ locals ++ local_of d ∷ [] → (Has locals d.k → ⊥) → IsFontName d.name → LocalsTo bytes new to
 local_more bytes locals new at to d r h l b s is n name =
     let H : List LocalFont → Type 0 = λ ls. Has ls d.k → ⊥ in
     record {
@@ -159,7 +159,7 @@ not_local one bytes locals at to d (fault.FontTwice k) r h l b s n =
 not_local one bytes locals at to d (fault.BadName k) r h l b s n = record {
   says = (r.definitions, d, to, defined_more bytes r.definitions at to d r.read h l b s, n.0, n.1);
   none = λ _ font x. (let q = has_definition one bytes r.definitions at to d r.read h b s font x in
-      let N : List Definition → Type 0 = λ es. AllByRecursion (λ c. IsName c.name) es in
+      let N : List Definition → Type 0 = λ es. AllByRecursion (λ c. IsFontName c.name) es in
       n.1 (named_middle r.definitions q.0 d (subst N q.1 x.named)));
 }
 not_local one bytes locals at to d fault.OutOfMemory r h l b s n = record { says = tt; none = λ ne. absurd (ne refl) }

@@ -1,13 +1,8 @@
 -- Local fonts by their numbers.
-use Rattle.std.proofs.Common.{◌≡◌, ℕ, ℤ, zero, suc, ◌<◌, inl, inr, ⊎_elim, refl, sym, ◌∙◌, ap, arith, List, [], ◌∷◌, ◌++◌, length, get_or, true, false}
-use Rattle.std.specs.Prelude.{map, Some}
-use Rattle.std.specs.List.{Contains, list_any, position}
-use Rattle.std.specs.Ordering.{int_eq}
-use Rattle.std.proofs.lemmas.Cmp.{int_eq_equiv}
-use Rattle.std.proofs.lemmas.Bool.{false≢true}
-use Rattle.std.proofs.lemmas.Bool.Decides.{Decides-int_eq}
-use Rattle.std.proofs.lemmas.Map.Views.{Contains-from_any, list_any-from_Contains}
-use Rattle.std.proofs.lemmas.List.Quantifiers.{position-Some}
+use Rattle.std.proofs.Common.{◌≡◌, ℕ, ℤ, zero, suc, ◌<◌, inl, inr, ⊎_elim, refl, sym, ◌∙◌, ap, subst, arith, List, [], ◌∷◌, ◌++◌, length, get_or}
+use Rattle.std.specs.Prelude.{map}
+use Rattle.std.specs.List.{Contains}
+use Rattle.dvi_ops.specs.FontNumbers.{StandsAt}
 use Rattle.vf_packets.specs.Font.{LocalFont, number_of, Has}
 use Rattle.vf_packets.specs.LocalViews.{local_view}
 use Rattle.vf_packets.specs.declared.local.Local.{Local}
@@ -21,31 +16,27 @@ has_contains : (ls : List LocalFont) (k : ℤ) → Has ls k → Contains (map nu
 has_contains [] k h = elim h [ ]
 has_contains (f ∷ ls) k h = ⊎_elim (λ e. (0, omega arith, e)) (λ g. (let c = has_contains ls k g in (suc c.0, (let l = c.1 in omega (arith, l)), c.2))) h
 
-equal : (x y : ℤ) → int_eq x y ≡ true → x ≡ y
-equal x y e = (Decides-int_eq x y).0 e
+-- what a look-up among the numbers finds
+pub is_one : (ls : List LocalFont) (ns : List ℤ) (k : ℤ) → ns ≡ map number_of ls → Contains ns k → Has ls k
+is_one ls ns k e h = (let c = subst (λ (l : List ℤ). Contains l k) e h in contains_has ls k c.0 c.1 c.2)
 
--- what a test of the numbers finds
-pub has_any : (ls : List LocalFont) (k : ℤ) → list_any (int_eq k) (map number_of ls) ≡ true → Has ls k
-has_any ls k e = (let c = Contains-from_any equal k (map number_of ls) e in contains_has ls k c.0 c.1 c.2)
-
-pub has_none : (ls : List LocalFont) (k : ℤ) → list_any (int_eq k) (map number_of ls) ≡ false → Has ls k → ⊥
-has_none ls k e h = false≢true (sym e ∙ list_any-from_Contains int_eq_equiv k (map number_of ls) (has_contains ls k h))
+pub is_none : (ls : List LocalFont) (ns : List ℤ) (k : ℤ) → ns ≡ map number_of ls → (Contains ns k → ⊥) → Has ls k → ⊥
+is_none ls ns k e n h = n (subst (λ (l : List ℤ). Contains l k) (sym e) (has_contains ls k h))
 
 length_map : (ls : List LocalFont) → length (map number_of ls) ≡ length ls
 length_map [] = refl
 length_map (l ∷ ls) = ap suc (length_map ls)
 
-number_at : (ls : List LocalFont) (i : ℕ) (f : LocalFont) → i < length ls → get_or (map number_of ls) i f.k ≡ (get_or ls i f).k
-number_at [] i f l = absurd (omega (arith, l))
-number_at (g ∷ ls) zero f l = refl
-number_at (g ∷ ls) (suc i) f l = number_at ls i f (omega (arith, l))
+number_at : (ls : List LocalFont) (i : ℕ) (f : LocalFont) (k : ℤ) → i < length ls → get_or (map number_of ls) i k ≡ (get_or ls i f).k
+number_at [] i f k l = absurd (omega (arith, l))
+number_at (g ∷ ls) zero f k l = refl
+number_at (g ∷ ls) (suc i) f k l = number_at ls i f k (omega (arith, l))
 
 -- the font at the place that a look-up finds
-pub found_at : (ls : List LocalFont) (k : ℤ) (i : ℕ) (f : LocalFont) → position (int_eq k) (map number_of ls) ≡ Some i → f ≡ get_or ls i f → Contains ls f × (f.k ≡ k)
-found_at ls k i f e g =
-    let p = position-Some (int_eq k) (map number_of ls) i f.k e in
-    let l : i < length ls = (let q = p.0 in omega (arith, q, length_map ls)) in
-    ((i, l, sym g), ap number_of g ∙ sym (number_at ls i f l) ∙ sym (equal k (get_or (map number_of ls) i f.k) p.1))
+pub found_at : (ls : List LocalFont) (ns : List ℤ) (k : ℤ) (i : ℕ) (f : LocalFont) → ns ≡ map number_of ls → StandsAt ns k i → f ≡ get_or ls i f → Contains ls f × (f.k ≡ k)
+found_at ls ns k i f e h g =
+    let l : i < length ls = (let q = h.0 in omega (arith, q, ap length e, length_map ls)) in
+    ((i, l, sym g), ap number_of g ∙ sym (number_at ls i f k l) ∙ sym (ap (λ (v : List ℤ). get_or v i k) e) ∙ h.1)
 
 -- the view of a font that stands at a place
 pub viewed : (fs : List Local) (i : ℕ) (f : Local) → f ≡ get_or fs i f → local_view f ≡ get_or (map local_view fs) i (local_view f)

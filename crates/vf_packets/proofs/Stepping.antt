@@ -3,6 +3,8 @@ use Rattle.std.proofs.Common.{◌≡◌, ℕ, ◌+◌, ◌-◌, ◌<◌, ◌≤�
 use Rattle.std.specs.Prelude.{slice_range}
 use Rattle.std.proofs.lemmas.List.{take-append-drop, drop_all, append_cancel_left, length-take-le, drop-drop}
 use Rattle.dvi_ops.specs.Command.{Command}
+use Rattle.dvi_ops.specs.Command.Command.{Bop, Eop, Xxx, FntDef, Pre, Post, PostPost}
+use Rattle.dvi_ops.specs.Plain.{IsPlain}
 use Rattle.dvi_ops.specs.Spelling.{Spell}
 use Rattle.dvi_ops.specs.Laws.{OneSpelling}
 use Rattle.dvi_ops.specs.View.{NoSpelling}
@@ -52,3 +54,14 @@ unspelled bytes at n i (d ∷ cs) x = n d.command x.1 x.2 x.3 x.4
 -- nothing is left
 pub at_end : (bytes : List ℕ) (at : ℕ) → length bytes ≤ at → ProgramFrom at (drop at bytes)
 at_end bytes at h = record { commands = []; spelled = drop_all at bytes h; allowed = tt }
+
+-- a command that is passed over is one that a packet may hold
+pub plain_allowed : (c : Command) → IsPlain c → IsAllowed c
+plain_allowed (Bop counts back) p = p
+plain_allowed Eop p = p
+plain_allowed (FntDef d) p = p
+plain_allowed (Pre head) p = p
+plain_allowed (Post tail) p = p
+plain_allowed (PostPost back id) p = p
+plain_allowed (Xxx text) p = absurd p
+plain_allowed _ p = tt

@@ -3,7 +3,7 @@ use Rattle.std.specs.Prelude.{◌≡◌, ◌≢◌, ℕ, List, [], ◌∷◌, �
 use Rattle.std.specs.List.{AllByRecursion}
 use Rattle.dvi_ops.specs.Command.{Definition}
 use Rattle.dvi_ops.specs.Spelling.{RunsPast}
-use Rattle.vf_packets.specs.Names.{IsName}
+use Rattle.dv_base.specs.FontName.{IsFontName}
 use Rattle.vf_packets.specs.Programs.{IsProgram}
 use Rattle.vf_packets.specs.Font.{LocalFont, VirtualFont, Has, Apart}
 use Rattle.vf_packets.specs.Packets.{CharacterPacket, Packets}
@@ -54,7 +54,7 @@ VfFaultIs bytes (fault.Short at) = IsShort bytes at
 VfFaultIs bytes (fault.BadOp c) = (ps : List CharacterPacket) × (p : CharacterPacket) × (at : ℕ) × ReadTo bytes (ps ++ p ∷ []) at × (c ≡ p.code) × (IsProgram p.commands → ⊥)
 VfFaultIs bytes (fault.Twice c) = (ps : List CharacterPacket) × (at : ℕ) × ReadTo bytes ps at × (1 < times c (kept ps))
 VfFaultIs bytes (fault.FontTwice k) = (ds : List Definition) × (d : Definition) × (at : ℕ) × DefinedTo bytes (ds ++ d ∷ []) at × (k ≡ d.k) × Has (map local_of ds) d.k
-VfFaultIs bytes (fault.BadName k) = (ds : List Definition) × (d : Definition) × (at : ℕ) × DefinedTo bytes (ds ++ d ∷ []) at × (k ≡ d.k) × (IsName d.name → ⊥)
+VfFaultIs bytes (fault.BadName k) = (ds : List Definition) × (d : Definition) × (at : ℕ) × DefinedTo bytes (ds ++ d ∷ []) at × (k ≡ d.k) × (IsFontName d.name → ⊥)
 VfFaultIs bytes fault.NoPost = HasNoPost bytes
 VfFaultIs bytes fault.OutOfMemory = Unit {0}
 
@@ -72,7 +72,7 @@ pub record LocalsTo (bytes : List ℕ) (locals : List LocalFont) (at : ℕ) : Ty
   pub definitions : List Definition
   pub read : DefinedTo bytes definitions at
   pub are : locals ≡ map local_of definitions
-  pub named : AllByRecursion (λ d. IsName d.name) definitions
+  pub named : AllByRecursion (λ d. IsFontName d.name) definitions
   pub apart : Apart (map local_of definitions)
 
 -- No definition begins at the place.

@@ -4,10 +4,11 @@ use Rattle.std.specs.Prelude.{◌≡◌, ℕ, List, [], ◌∷◌, ◌++◌, ◌
 use Rattle.std.specs.List.{AllByRecursion}
 use Rattle.dvi_ops.specs.Command.{Definition}
 use Rattle.dvi_ops.specs.Command.Command.{FntDef}
-use Rattle.dvi_ops.specs.Spelling.{Spell, unsigned}
-use Rattle.vf_packets.specs.Names.{IsName}
+use Rattle.dv_base.specs.Numbers.{unsigned}
+use Rattle.dvi_ops.specs.Spelling.{Spell}
+use Rattle.dv_base.specs.FontName.{IsFontName}
 use Rattle.vf_packets.specs.Programs.{IsProgram}
-use Rattle.vf_packets.specs.Font.{LocalFont, VirtualFont, Apart, entry}
+use Rattle.vf_packets.specs.Font.{LocalFont, VirtualFont, Apart, entry, packet_of}
 use Rattle.vf_packets.specs.Packets.{CharacterPacket, Packets}
 
 -- The preamble is 247, 202, a comment with its length in one byte before it, and eight bytes: the checksum and the design size. The
@@ -55,6 +56,10 @@ pub record Tells (table : List (Option (List ℕ))) (packets : List CharacterPac
   pub once : (code : ℕ) → times code packets ≤ 1
   pub others : (code : ℕ) → times code packets ≡ 0 → entry table code ≡ None
 
+-- Each of a font's packets is a list of whole commands that a packet may hold.
+abbrev pub HoldsPrograms : VirtualFont → Type 0
+HoldsPrograms font = (code : ℕ) (commands : List ℕ) → packet_of font code ≡ Some commands → IsProgram commands
+
 -- The bytes are a VF file that tells this font.
 pub record IsVf (bytes : List ℕ) (font : VirtualFont) : Type 0 where
   pub preamble : HasPreamble bytes
@@ -66,6 +71,6 @@ pub record IsVf (bytes : List ℕ) (font : VirtualFont) : Type 0 where
   pub fill : ℕ
   pub body : Packets middle packets (248 ∷ replicate fill 248)
   pub locals : font.locals ≡ map local_of definitions
-  pub named : AllByRecursion (λ d. IsName d.name) definitions
+  pub named : AllByRecursion (λ d. IsFontName d.name) definitions
   pub apart : Apart (map local_of definitions)
   pub told : Tells font.packets (kept packets)

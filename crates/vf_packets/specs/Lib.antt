@@ -1,5 +1,4 @@
 pub mod Programs
-pub mod Names
 pub mod Font
 pub mod Packets
 pub mod File
@@ -8,3 +7,4 @@ pub mod LocalFaults
 pub mod PacketFaults
 pub mod Faults
 pub mod Slots
+pub mod Laws

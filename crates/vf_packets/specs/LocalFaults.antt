@@ -1,7 +1,7 @@
--- Why a definition is refused.
+-- Why a definition is refused. No public clause cites this module.
 use Rattle.std.specs.Prelude.{◌≡◌, List}
 use Rattle.dvi_ops.specs.Command.{Definition}
-use Rattle.vf_packets.specs.Names.{IsName}
+use Rattle.dv_base.specs.FontName.{IsFontName}
 use Rattle.vf_packets.specs.Font.{LocalFont, Has}
 use Rattle.vf_packets.specs.declared.fault.VfFault.{VfFault}
 use Rattle.vf_packets.specs.declared.fault.VfFault.TheVariants as fault
@@ -9,7 +9,7 @@ use Rattle.vf_packets.specs.declared.fault.VfFault.TheVariants as fault
 -- The definition is no local font behind these: its number is one of theirs, or its name isn't one that a font may have.
 abbrev pub IsNotLocal : List LocalFont → Definition → VfFault → Type 0
 IsNotLocal before d (fault.FontTwice k) = (k ≡ d.k) × Has before d.k
-IsNotLocal before d (fault.BadName k) = (k ≡ d.k) × (IsName d.name → ⊥)
+IsNotLocal before d (fault.BadName k) = (k ≡ d.k) × (IsFontName d.name → ⊥)
 IsNotLocal before d fault.OutOfMemory = Unit {0}
 IsNotLocal before d fault.BadPreamble = ⊥
 IsNotLocal before d (fault.BadOrder at) = ⊥

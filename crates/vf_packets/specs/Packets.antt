@@ -1,7 +1,7 @@
 -- The packets of a VF file (D. Knuth, "Virtual fonts: more fun for grand wizards", TUGboat 11:1). A short packet is pl[1], 0 to
 -- 241, cc[1], tfm[3] and pl bytes of commands; a long one is 242, pl[4], cc[4], tfm[4] and pl bytes of commands.
 use Rattle.std.specs.Prelude.{◌≡◌, ℕ, List, [], ◌∷◌, ◌+◌, length, take, drop, slice_index, nat_lt, if◌then◌else◌, Option, None, Some}
-use Rattle.dvi_ops.specs.Spelling.{unsigned}
+use Rattle.dv_base.specs.Numbers.{unsigned}
 
 -- A packet: its code, and the bytes of its commands.
 pub record CharacterPacket : Type 0 where

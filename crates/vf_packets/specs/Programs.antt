@@ -1,19 +1,8 @@
 -- The commands of a packet (D. Knuth, "Virtual fonts: more fun for grand wizards", TUGboat 11:1): DVI commands, one after another.
-use Rattle.std.specs.Prelude.{◌≡◌, ℕ, List, [], ◌∷◌, ◌++◌, ◌+◌, length}
+use Rattle.std.specs.Prelude.{ℕ, List, [], ◌∷◌}
 use Rattle.dvi_ops.specs.Command.{Command}
 use Rattle.dvi_ops.specs.Command.Command.{Bop, Eop, FntDef, Pre, Post, PostPost}
-use Rattle.dvi_ops.specs.Spelling.{Spell}
-
--- a command, and the place of its first byte in the packet
-pub record Placed : Type 0 where
-  pub place : ℕ
-  pub command : Command
-
--- The bytes are spellings of these commands, one after another, and nothing else; the first byte has the place at.
-abbrev pub Lexes : ℕ → List ℕ → List Placed → Type 0
-Lexes at bytes [] = bytes ≡ []
-Lexes at bytes (c ∷ cs) =
-    (c.place ≡ at) × (front : List ℕ) × (rest : List ℕ) × (bytes ≡ front ++ rest) × Spell c.command front × Lexes (at + length front) rest cs
+pub use Rattle.dvi_ops.specs.Placed.{Placed, Lexes}
 
 -- A packet holds neither the ends of pages, nor definitions, nor what stands round the pages.
 abbrev pub IsAllowed : Command → Type 0

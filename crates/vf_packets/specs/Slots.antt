@@ -1,4 +1,4 @@
--- How a file's packets are kept: by their places in its bytes.
+-- How a file's packets are kept: by their places in its bytes. No public clause cites this module.
 use Rattle.std.specs.Prelude.{◌≡◌, ℕ, List, ◌≤◌, length, slice_range, map, Option, None, Some}
 use Rattle.std.specs.List.{All}
 use Rattle.vf_packets.specs.Font.{LocalFont, VirtualFont}

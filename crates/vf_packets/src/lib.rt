@@ -17,14 +17,15 @@
 #![tactic(auto)]
 
 mod fault;
+mod laws;
 mod local;
-mod name;
 mod packet;
 mod program;
 mod read;
 mod vf;
 
 pub use fault::VfFault;
+pub use laws::one_font;
 pub use local::Local;
 pub use vf::Vf;
 

@@ -3,14 +3,12 @@ ghost use Rattle.std.specs.Prelude.{◌≡◌, ◌++◌, [], ◌∷◌, IfErr, O
 ghost use Rattle.std.specs.List.{Contains};
 ghost use Rattle.dvi_ops.specs.View.{def_view};
 ghost use Rattle.vf_packets.specs.Font.{LocalFont, Has, first_number};
-ghost use Rattle.vf_packets.specs.Names.{IsName};
+ghost use Rattle.dv_base.specs.FontName.{IsFontName};
 ghost use Rattle.vf_packets.specs.File.{local_of};
 
 use crate::fault::VfFault;
-use crate::name::font_name;
-use dv_base::FileName;
-use dvi_ops::Def;
-use indexmap::IndexSet;
+use dv_base::{FileName, font_name};
+use dvi_ops::{Def, FontNumbers};
 use std::alloc::Global;
 use std::marker::Model;
 
@@ -25,11 +23,11 @@ pub struct Local {
     pub name: FileName,
 }
 
-/// Local fonts in the order of their definitions, each number once. The place of a number in the set is that of its font.
+/// Local fonts in the order of their definitions, each number once. The place of a number among the numbers is that of its font.
 #[derive(Drop)]
 pub struct Locals {
     fonts: Vec<Local>,
-    numbers: IndexSet<i64>,
+    numbers: FontNumbers,
 }
 
 impl Model for Locals {
@@ -42,7 +40,7 @@ impl Model for Locals {
 
     ghost view = { λ l. map local_view l.fonts.items };
 
-    ghost invariant = { λ l. l.numbers.keys ≡ map number_of (map local_view l.fonts.items) };
+    ghost invariant = { λ l. l.numbers ≡ map number_of (map local_view l.fonts.items) };
 }
 
 ghost use Rattle.vf_packets.specs.LocalViews.{local_view};
@@ -55,7 +53,7 @@ impl Locals {
     {
         Locals {
             fonts: Vec::new(alloc),
-            numbers: IndexSet::new(alloc),
+            numbers: FontNumbers::new(alloc),
         }
     }
 
@@ -63,40 +61,32 @@ impl Locals {
     pub fn add(&mut self, def: &Def<'_>) -> Result<(), VfFault>
         ensures added { OnOk result (self.new ≡ self.old ++ local_of (def_view def.now) ∷ []) }
         ensures new { OnOk result (Has self.old def.now.k → ⊥) }
-        ensures named { OnOk result (IsName (def_view def.now).name) }
+        ensures named { OnOk result (IsFontName (def_view def.now).name) }
         ensures err { IfErr result (IsNotLocal self.old (def_view def.now)) }
     {
-        if self.numbers.contains(&def.k) {
-            return Err(VfFault::FontTwice(def.k));
-        }
         let Some(name) = font_name(def.name) else {
             return Err(VfFault::BadName(def.k));
         };
-        let font = Local {
+        self.fonts.reserve(1)?;
+        let is_new = self.numbers.push(def.k)?;
+        if !is_new {
+            return Err(VfFault::FontTwice(def.k));
+        }
+        self.fonts.push_reserved(Local {
             k: def.k,
             checksum: def.checksum,
             scale: def.size,
             design: def.design,
             name,
-        };
-        match self.fonts.push(font) {
-            Ok(()) => {}
-            Err(_) => return Err(VfFault::OutOfMemory),
-        }
-        match self.numbers.insert(def.k) {
-            Ok(_) => Ok(()),
-            Err(_) => {
-                let _ = self.fonts.pop();
-                Err(VfFault::OutOfMemory)
-            }
-        }
+        });
+        Ok(())
     }
 
     /// The font of a number; `None` exactly where there is none.
     pub fn get(&self, k: i64) -> Option<&Local>
         ensures { MatchOption result (Has self.now k → ⊥) (λ font. Contains self.now (local_view font.now) × (font.now.k ≡ k)) }
     {
-        let place = self.numbers.get_index_of(&k)?;
+        let place = self.numbers.place(k)?;
         Some(&self.fonts[place])
     }
 

@@ -1,10 +1,9 @@
 //! The packets of a VF file.
 ghost use Rattle.std.specs.Prelude.{◌≡◌, ◌≤◌, ◌<◌, ◌+◌, ◌^◌, length, slice_index, MatchOption};
-ghost use Rattle.dvi_ops.specs.Spelling.{unsigned};
 ghost use Rattle.vf_packets.specs.Packets.{head_len, content_len, code_in};
 ghost use Rattle.vf_packets.specs.PacketFaults.{IsPacketAt, IsShortPacket};
 
-use byteorder::{BigEndian, ByteOrder};
+use dv_base::unsigned;
 
 /// The first byte of a long packet; less in a short one is its length.
 pub const LONG: u8 = 242;
@@ -15,15 +14,6 @@ pub struct Packet {
     pub code: u32,
     pub start: usize,
     pub end: usize,
-}
-
-/// The unsigned number in the four bytes from `at` on.
-#[tactic(auto, unfolding(dvi_ops::specs::Spelling::unsigned))]
-fn unsigned4(bytes: &[u8], at: usize) -> u32
-    requires { at + 4 ≤ length bytes.now }
-    ensures { result ≡ unsigned at 4 bytes.now }
-{
-    BigEndian::read_u32(&bytes[at..])
 }
 
 /// How many bytes stand between the first byte of a packet and its commands: length, code and width.
@@ -45,7 +35,7 @@ fn content_len(first: u8, args: &[u8]) -> usize
     if first < LONG {
         first as usize
     } else {
-        unsigned4(args, 0) as usize
+        unsigned(args, 0, 4) as usize
     }
 }
 
@@ -58,7 +48,7 @@ fn code_in(first: u8, args: &[u8]) -> u32
     if first < LONG {
         args[0] as u32
     } else {
-        unsigned4(args, 4)
+        unsigned(args, 4, 4)
     }
 }
 

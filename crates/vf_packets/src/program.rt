@@ -3,7 +3,7 @@ ghost use Rattle.std.specs.Prelude.{MatchBool};
 ghost use Rattle.dvi_ops.specs.View.{view};
 ghost use Rattle.vf_packets.specs.Programs.{IsAllowed, IsProgram};
 
-use dvi_ops::{Cmd, next_cmd, one_spelling};
+use dvi_ops::{Cmd, next_cmd, one_spelling, pass};
 
 /// Whether a packet may hold the command.
 fn is_allowed(cmd: &Cmd<'_>) -> bool
@@ -27,6 +27,10 @@ pub fn is_program(bytes: &[u8]) -> bool
     one_spelling();
     let mut at = 0;
     'commands: while at < bytes.len() {
+        if let Some(next) = pass(bytes, at) {
+            at = next;
+            continue;
+        }
         match next_cmd(bytes, at) {
             Ok((cmd, next)) => {
                 if !is_allowed(&cmd) {

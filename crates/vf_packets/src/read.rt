@@ -15,7 +15,7 @@ use crate::local::Locals;
 use crate::packet::{LONG, next_packet};
 use crate::program::is_program;
 use crate::vf::{Slot, Span, Vf};
-use byteorder::{BigEndian, ByteOrder};
+use dv_base::unsigned;
 use dvi_ops::{Cmd, Def, next_cmd, one_spelling};
 use std::alloc::Global;
 
@@ -23,7 +23,6 @@ use std::alloc::Global;
 const POST: u8 = 248;
 
 /// The checksum in the preamble, and the place behind it.
-#[tactic(auto, unfolding(dvi_ops::specs::Spelling::unsigned))]
 fn read_preamble(bytes: &[u8]) -> Option<(u32, usize)>
     ensures { MatchOption result (HasPreamble bytes.now → ⊥) (λ r. HasPreamble bytes.now × (r.0 ≡ checksum_of bytes.now) × (r.1 ≡ body_at bytes.now)) }
 {
@@ -34,7 +33,7 @@ fn read_preamble(bytes: &[u8]) -> Option<(u32, usize)>
     if bytes.len() < 11 + comment {
         return None;
     }
-    Some((BigEndian::read_u32(&bytes[3 + comment..]), 11 + comment))
+    Some((unsigned(bytes, 3 + comment, 4), 11 + comment))
 }
 
 /// Whether a definition begins with the byte.

@@ -179,3 +179,23 @@ fn heads(rt: HostRuntime) -> Result<(), Fail> {
     }
     Ok(())
 }
+
+#[test]
+fn faults_in_words(rt: HostRuntime) -> Result<(), Fail> {
+    let names: [(VfFault, &str); 9] = [
+        (VfFault::BadPreamble, "BadPreamble"),
+        (VfFault::BadOrder(1), "BadOrder"),
+        (VfFault::Short(1), "Short"),
+        (VfFault::BadOp(1), "BadOp"),
+        (VfFault::Twice(1), "Twice"),
+        (VfFault::FontTwice(1), "FontTwice"),
+        (VfFault::BadName(1), "BadName"),
+        (VfFault::NoPost, "NoPost"),
+        (VfFault::OutOfMemory, "OutOfMemory"),
+    ];
+    for (fault, name) in names {
+        assert_eq!(rt; format!(in rt.alloc(); "{fault}")?.as_str(), name);
+    }
+    super::one_font();
+    Ok(())
+}

@@ -3,6 +3,7 @@ ghost use Rattle.std.specs.Prelude.{◌≡◌, MatchOption, None, Some};
 ghost use Rattle.std.specs.List.{Contains};
 ghost use Rattle.vf_packets.specs.Font.{VirtualFont, Has, first_number, packet_of};
 ghost use Rattle.vf_packets.specs.LocalViews.{local_view};
+ghost use Rattle.vf_packets.specs.Programs.{IsProgram};
 
 use crate::local::{Local, Locals};
 use std::marker::Model;
@@ -36,10 +37,11 @@ impl Model for Vf {
     ghost Value = { VirtualFont };
 
     ghost use Rattle.vf_packets.specs.Slots.{font_in, AreSlots};
+    ghost use Rattle.vf_packets.specs.File.{HoldsPrograms};
 
     ghost view = { λ v. font_in v.checksum v.locals v.bytes.items v.slots.items };
 
-    ghost invariant = { λ v. AreSlots v.bytes.items v.slots.items };
+    ghost invariant = { λ v. AreSlots v.bytes.items v.slots.items × HoldsPrograms (font_in v.checksum v.locals v.bytes.items v.slots.items) };
 }
 
 impl Vf {
@@ -50,9 +52,10 @@ impl Vf {
         self.checksum
     }
 
-    /// The commands of a code; `None` exactly where the file has no packet for it.
+    /// The commands of a code: spellings of whole commands that a packet may hold, one after another; `None` exactly where the
+    /// file has no packet for it.
     pub fn packet(&self, code: u8) -> Option<&[u8]>
-        ensures { MatchOption result (packet_of self.now code ≡ None) (λ bytes. packet_of self.now code ≡ Some bytes.now) }
+        ensures { MatchOption result (packet_of self.now code ≡ None) (λ bytes. (packet_of self.now code ≡ Some bytes.now) × IsProgram bytes.now) }
     {
         match self.slots[code as usize] {
             Slot::Empty => None,
