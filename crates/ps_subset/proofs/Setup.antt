@@ -1,17 +1,18 @@
 -- The state that the prolog and the setup leave.
 use Rattle.std.proofs.Common.{◌≡◌, refl, ap, ◌∙◌, subst, ℕ, ◌*◌, ◌<◌, List, [], ◌∷◌, ◌++◌, Some, arith, Bool, true, false}
 use Rattle.std.specs.Prelude.{codes, pos, ℤ, ◌*ℤ◌, bytes_eq, if◌then◌else◌}
+use Rattle.std.specs.Fmt.{digits}
 use Rattle.ps_subset.specs.Token as token
 use Rattle.ps_subset.specs.Token.{Token}
 use Rattle.ps_subset.specs.Reading.{reading_after, tokens, tokens_from, next, begin}
 use Rattle.ps_subset.specs.Prolog.{prolog, line}
 use Rattle.ps_subset.specs.Fraction.{Fraction, whole, times, over, lowest, low}
-use Rattle.ps_subset.specs.State.{Object, Number, Array, Dictionary, Machine, Entry, Cell, Entries, entry, value_in}
+use Rattle.ps_subset.specs.State.{Object, Number, Dictionary, Machine, Entry, Cell, Entries, entry, value_in}
 use Rattle.ps_subset.specs.Operators.{Operator}
 use Rattle.ps_subset.specs.Run.{meaning_in, start, nests, Value, Operation, Named, table, operator_in}
 use Rattle.ps_subset.specs.RuleText.{Job, IsGoodJob, points, setup_lines}
 use Rattle.ps_subset.specs.Leads.{Goes}
-use Rattle.ps_subset.specs.Conditions.{HasProlog, OnTop, JobStands, number, names, names_before, names_after, matrix_cell, prolog_state}
+use Rattle.ps_subset.specs.Conditions.{HasProlog, OnTop, JobStands, number, names, prolog_entries, prolog_cells, prolog_state}
 use Rattle.ps_subset.proofs.Open.{machine_open}
 use Rattle.ps_subset.proofs.Dictionaries.{bytes_same}
 use Rattle.ps_subset.proofs.Fractions.{times-whole, mul_1}
@@ -20,7 +21,7 @@ use Rattle.ps_subset.proofs.Numbers.{number_reads, signed_reads}
 use Rattle.ps_subset.proofs.Runs.{Runs}
 
 pub prolog_goes : Goes 100 nests (tokens prolog) start prolog_state []
-unfolding machine_open
+unfolding machine_open digits
 prolog_goes = record { by = refl }
 
 prolog_reads : Reads prolog (tokens prolog)
@@ -64,13 +65,13 @@ user_cell copies = Entries 200 (record { key = codes "#copies"; value = number c
 
 abbrev pub setup_entries : Job → Fraction → List Entry
 setup_entries j vs =
-    (names_before ++ record { key = codes "RM"; value = Array 2 } ∷ names_after) ++
+    prolog_entries ++
     (record { key = codes "OY"; value = Number (whole j.origin_y) } ∷ record { key = codes "OX"; value = Number (whole j.origin_x) } ∷
     record { key = codes "VR"; value = number j.down } ∷ record { key = codes "R"; value = number j.across } ∷ record { key = codes "VS"; value = Number vs } ∷ [])
 
 -- the state after the setup
 abbrev state_of : ℕ → Job → Fraction → Machine
-state_of copies j vs = record start { dictionaries = 1 ∷ 0 ∷ []; store = user_cell copies ∷ Entries 1200 (setup_entries j vs) ∷ matrix_cell ∷ [] }
+state_of copies j vs = record start { dictionaries = 1 ∷ 0 ∷ []; store = user_cell copies ∷ Entries 1200 (setup_entries j vs) ∷ prolog_cells }
 
 abbrev pub setup_state : ℕ → Job → Machine
 setup_state copies j = state_of copies j (points j.height)
@@ -125,8 +126,8 @@ prolog_knows =
     let store = prolog_state.store in
     let ds : List ℕ = 1 ∷ 0 ∷ [] in
     record {
-      names_stand = found store ds names (refl, (refl, (refl, (refl, (refl, (refl, (refl, (refl, (refl, (refl, (refl, (refl, (refl, (refl, tt))))))))))))));
-      operators_stand = plain store ds table (refl, (refl, (refl, (refl, (refl, (refl, (refl, (refl, (refl, (refl, (refl, (refl, (refl, (refl, (refl, (refl, (refl, (refl, (refl, (refl, (refl, (refl, (refl, tt)))))))))))))))))))))));
+      names_stand = found store ds names (refl, (refl, (refl, (refl, (refl, (refl, (refl, (refl, (refl, (refl, (refl, (refl, (refl, (refl, (refl, (refl, (refl, (refl, (refl, (refl, (refl, (refl, (refl, (refl, (refl, (refl, (refl, (refl, (refl, (refl, (refl, (refl, (refl, (refl, (refl, (refl, (refl, (refl, (refl, (refl, (refl, tt)))))))))))))))))))))))))))))))))))))))));
+      operators_stand = plain store ds table (refl, (refl, (refl, (refl, (refl, (refl, (refl, (refl, (refl, (refl, (refl, (refl, (refl, (refl, (refl, (refl, (refl, (refl, (refl, (refl, (refl, (refl, (refl, (refl, (refl, (refl, (refl, (refl, (refl, (refl, (refl, (refl, (refl, (refl, tt))))))))))))))))))))))))))))))))));
       truth = refl;
       matrix_stands = refl;
       matrix_is = refl;
@@ -139,8 +140,8 @@ module _ (copies : ℕ) (j : Job) where
       let store = (setup_state copies j).store in
       let ds : List ℕ = 1 ∷ 0 ∷ [] in
       record {
-        names_stand = found store ds names (refl, (refl, (refl, (refl, (refl, (refl, (refl, (refl, (refl, (refl, (refl, (refl, (refl, (refl, tt))))))))))))));
-        operators_stand = plain store ds table (refl, (refl, (refl, (refl, (refl, (refl, (refl, (refl, (refl, (refl, (refl, (refl, (refl, (refl, (refl, (refl, (refl, (refl, (refl, (refl, (refl, (refl, (refl, tt)))))))))))))))))))))));
+        names_stand = found store ds names (refl, (refl, (refl, (refl, (refl, (refl, (refl, (refl, (refl, (refl, (refl, (refl, (refl, (refl, (refl, (refl, (refl, (refl, (refl, (refl, (refl, (refl, (refl, (refl, (refl, (refl, (refl, (refl, (refl, (refl, (refl, (refl, (refl, (refl, (refl, (refl, (refl, (refl, (refl, (refl, (refl, tt)))))))))))))))))))))))))))))))))))))))));
+        operators_stand = plain store ds table (refl, (refl, (refl, (refl, (refl, (refl, (refl, (refl, (refl, (refl, (refl, (refl, (refl, (refl, (refl, (refl, (refl, (refl, (refl, (refl, (refl, (refl, (refl, (refl, (refl, (refl, (refl, (refl, (refl, (refl, (refl, (refl, (refl, (refl, tt))))))))))))))))))))))))))))))))));
         truth = refl;
         matrix_stands = refl;
         matrix_is = refl;

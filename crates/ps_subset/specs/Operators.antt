@@ -1,20 +1,27 @@
 -- What each operator does: its operands, its result and what else it changes (PostScript Language Reference, chapter 8, for the subset that
 -- the texts use). What no rule here covers is none. Operands are written from the top of the stack down.
-use Rattle.std.specs.Prelude.{ℕ, zero, suc, ◌+◌, ◌-◌, ◌*◌, ◌/◌, ◌^◌, List, [], ◌∷◌, ◌++◌, Option, Some, None, Bool, true, false, if◌then◌else◌, ◌&&◌, ◌||◌, nat_eq, nat_lt, nat_le, length, slice_get, slice_set, option_and_then, codes, pos, take, drop}
+use Rattle.std.specs.Prelude.{ℕ, zero, suc, ◌+◌, ◌-◌, ◌*◌, ◌/◌, ◌^◌, List, [], ◌∷◌, ◌++◌, Option, Some, None, Bool, true, false, if◌then◌else◌, ◌&&◌, ◌||◌, nat_eq, nat_lt, nat_le, length, slice_get, slice_set, option_and_then, option_map, codes, pos, take, drop, reverse, replicate, bytes_eq}
 use Rattle.ps_subset.specs.Fraction.{Fraction, whole, plus, minus, times, over, negative, size, natural_of, is_zero}
 use Rattle.ps_subset.specs.Token.{Body}
-use Rattle.ps_subset.specs.State.{Object, Number, Truth, Literal, Text, Procedure, Array, Dictionary, Mark, Save, Cell, Elements, Entries, Place, Frame, Graphics, Copy, Character, Machine, Event, Mask, Shown, Outcome, quiet, go_on, entry, with_entry, value_in, push, held_glyphs, same_objects}
+use Rattle.ps_subset.specs.State.{Object, Number, Truth, Literal, Text, Procedure, Array, Dictionary, Mark, Save, Null, Entry, Cell, Elements, Entries, Place, Frame, Graphics, FontEntry, Copy, Character, Machine, Event, PutArray, FontMade, TextShown, Mask, Shown, Outcome, quiet, more, go_on, entry, with_entry, entries_of, elements_of, value_in, push, held_glyphs, same_objects}
 
 -- the operators
 pub data Operator : Type 0 where
   Def : Operator
   Exch : Operator
   Dup : Operator
+  Pop : Operator
+  Index : Operator
+  Roll : Operator
   Dict : Operator
   Begin : Operator
   End : Operator
   OpenArray : Operator
   CloseArray : Operator
+  NewArray : Operator
+  Put : Operator
+  Get : Operator
+  Aload : Operator
   Add : Operator
   Mul : Operator
   Div : Operator
@@ -28,6 +35,10 @@ pub data Operator : Type 0 where
   Moveto : Operator
   Rmoveto : Operator
   Currentpoint : Operator
+  Definefont : Operator
+  Setfont : Operator
+  Show : Operator
+  Setcachedevice : Operator
   Imagemask : Operator
   Showpage : Operator
 
@@ -95,6 +106,10 @@ exch_effect _ m = None
 abbrev pub dup_effect : List Object → Machine → Option Machine
 dup_effect (a ∷ rest) m = push a m
 dup_effect [] m = None
+
+abbrev pub pop_effect : List Object → Machine → Option Machine
+pop_effect (a ∷ rest) m = Some (record m { operands = rest })
+pop_effect [] m = None
 
 -- the operands above the topmost mark, the lowest first, and those below it
 abbrev pub down_to_mark : List Object → List Object → Option (List Object × List Object)
@@ -246,6 +261,153 @@ imagemask_effect beside (Procedure procedure ∷ Array a ∷ Truth ∷ h ∷ w �
     mask_by beside procedure (shift_of (slice_get m.store a)) (count_of w) (count_of h) rest m
 imagemask_effect beside _ m = None
 
+-- Arrays and fonts.
+-- the n-th operand from the top
+abbrev pub index_effect : List Object → Machine → Option Machine
+index_effect operands m =
+    with_count operands (λ n rest. option_map (λ x. record m { operands = x ∷ rest }) (slice_get rest n))
+
+-- the top j of n operands go below the others
+abbrev pub rolled : ℕ → ℕ → List Object → List Object
+rolled n j rest = drop j (take n rest) ++ (take j rest ++ drop n rest)
+
+abbrev pub roll_effect : List Object → Machine → Option Machine
+roll_effect operands m =
+    with_count operands (λ j below. with_count below (λ n rest.
+    if nat_le j n && nat_le n (length rest) then Some (record m { operands = rolled n j rest }) else None))
+
+-- whether an array is put is told
+abbrev pub put_events : Object → ℕ → List Event
+put_events (Array a) i = PutArray i ∷ []
+put_events _ i = []
+
+abbrev pub put_at : Option Cell → ℕ → ℕ → Object → List Object → Machine → Outcome
+put_at (Some (Elements xs)) a i x rest m =
+    if nat_lt i (length xs) then Some (record m { operands = rest; store = slice_set m.store a (Elements (slice_set xs i x)) }, put_events x i) else None
+put_at _ a i x rest m = None
+
+abbrev pub put_by : Option ℕ → ℕ → Object → List Object → Machine → Outcome
+put_by (Some i) a x rest m = put_at (slice_get m.store a) a i x rest m
+put_by None a x rest m = None
+
+abbrev pub put_effect : List Object → Machine → Outcome
+put_effect (x ∷ Number i ∷ Array a ∷ rest) m = put_by (natural_of i) a x rest m
+put_effect _ m = None
+
+abbrev pub got : Option Object → List Object → Machine → Option Machine
+got (Some x) rest m = Some (record m { operands = x ∷ rest })
+got None rest m = None
+
+-- an array's element, or a dictionary's value
+abbrev pub get_effect : List Object → Machine → Option Machine
+get_effect (Number i ∷ Array a ∷ rest) m = option_and_then (λ n. got (slice_get (elements_of (slice_get m.store a)) n) rest m) (natural_of i)
+get_effect (Literal key ∷ Dictionary d ∷ rest) m = got (entry key (entries_of (slice_get m.store d))) rest m
+get_effect _ m = None
+
+abbrev pub aload_on : Option Cell → ℕ → List Object → Machine → Option Machine
+aload_on (Some (Elements xs)) a rest m =
+    if nat_le (length xs + length rest + 1) 500 then Some (record m { operands = Array a ∷ (reverse xs ++ rest) }) else None
+aload_on _ a rest m = None
+
+abbrev pub aload_effect : List Object → Machine → Option Machine
+aload_effect (Array a ∷ rest) m = aload_on (slice_get m.store a) a rest m
+aload_effect _ m = None
+
+-- the font directory with one more font at its end, or with the one of this key changed
+abbrev pub with_font : List ℕ → ℕ → List FontEntry → List FontEntry
+with_font key d [] = record { key = key; dictionary = d } ∷ []
+with_font key d (f ∷ fs) = if bytes_eq f.key key then (record { key = key; dictionary = d } ∷ fs) else (f ∷ with_font key d fs)
+
+abbrev pub font_entered : Option (List Cell) → List ℕ → ℕ → List Object → Machine → Outcome
+font_entered (Some store) key d rest m = Some (record m { operands = Dictionary d ∷ rest; store = store; fonts = with_font key d m.fonts }, FontMade key ∷ [])
+font_entered None key d rest m = None
+
+-- the dictionary's FID becomes the key
+abbrev pub definefont_effect : List Object → Machine → Outcome
+definefont_effect (Dictionary d ∷ Literal key ∷ rest) m = font_entered (defined (slice_get m.store d) m.store d (codes "FID") (Literal key)) key d rest m
+definefont_effect _ m = None
+
+abbrev pub setfont_effect : List Object → Machine → Option Machine
+setfont_effect (Dictionary d ∷ rest) m =
+    if holds_key (entry (codes "FID") (entries_of (slice_get m.store d))) then Some (record m { operands = rest; graphics = record m.graphics { font = Some d } }) else None
+setfont_effect _ m = None
+
+-- only where a character is shown, and once
+abbrev pub noted : Option Character → Option Fraction → Fraction → List Object → Machine → Option Machine
+noted (Some who) None wx rest m = Some (record m { operands = rest; width = Some wx })
+noted _ _ wx rest m = None
+
+abbrev pub setcachedevice_effect : List Object → Machine → Option Machine
+setcachedevice_effect (Number ury ∷ Number urx ∷ Number lly ∷ Number llx ∷ Number wy ∷ Number wx ∷ rest) m =
+    if is_zero wy then noted m.showing m.width wx rest m else None
+setcachedevice_effect _ m = None
+
+-- show. A font that it takes has FontType 3, FontMatrix [1 0 0 1 0 0], and a literal name as its FID, which is its key.
+abbrev pub is_unit : Option (Fraction × Fraction) → Bool
+is_unit (Some (tx, ty)) = is_zero tx && is_zero ty
+is_unit None = false
+
+abbrev pub has_unit_matrix : Option Object → List Cell → Bool
+has_unit_matrix (Some (Array a)) store = is_unit (shift_of (slice_get store a))
+has_unit_matrix _ store = false
+
+abbrev pub key_by : Option Object → Option Object → Bool → Option (List ℕ)
+key_by (Some (Number three)) (Some (Literal key)) unit = if is_number 3 (natural_of three) && unit then Some key else None
+key_by _ _ unit = None
+
+abbrev pub font_key : List Entry → List Cell → Option (List ℕ)
+font_key es store = key_by (entry (codes "FontType") es) (entry (codes "FID") es) (has_unit_matrix (entry (codes "FontMatrix") es) store)
+
+-- What a character's BuildChar starts from: the font's dictionary and the code are on top, and the place has become the offset.
+abbrev pub in_character : List ℕ → ℕ → ℕ → Place → Machine → Machine
+in_character key d code p m = record m {
+  operands = Number (whole (pos code)) ∷ Dictionary d ∷ m.operands;
+  graphics = record m.graphics { frame = record m.graphics.frame { offset_x = p.x; offset_y = p.y }; place = None };
+  pushed = m.graphics ∷ m.pushed;
+  showing = Some (record { key = key; code = code });
+  width = None;
+}
+
+-- after it the graphics state is taken back, and the place grows by the width
+abbrev pub grown : Graphics → List Graphics → Option Place → Fraction → Machine → Option Machine
+grown g gs (Some p) wx m = Some (record m { graphics = record g { place = Some (record p { x = plus p.x (times g.frame.scale_x wx) }) }; pushed = gs })
+grown g gs None wx m = None
+
+abbrev pub taken_back : List Graphics → Option Fraction → Machine → Option Machine
+taken_back (g ∷ gs) (Some wx) m = grown g gs g.place wx m
+taken_back _ _ m = None
+
+-- it has noted a width, and left the operands that were there
+abbrev pub built : Machine → Machine → Outcome
+built before m =
+    if same_objects m.operands before.operands then quiet (taken_back m.pushed m.width (record m { showing = before.showing; width = before.width })) else None
+
+abbrev pub build_by : (Body → Machine → Outcome) → List ℕ → ℕ → ℕ → Place → Option Object → Machine → Outcome
+build_by deeper key d code p (Some (Procedure build)) m =
+    if nat_lt (length m.pushed) 31 && nat_le (length m.operands + 2) 500 then go_on (deeper build (in_character key d code p m)) (built m) else None
+build_by deeper key d code p _ m = None
+
+abbrev pub character : (Body → Machine → Outcome) → List ℕ → ℕ → Option ℕ → Option Place → Machine → Outcome
+character deeper key code (Some d) (Some p) m = build_by deeper key d code p (entry (codes "BuildChar") (entries_of (slice_get m.store d))) m
+character deeper key code _ _ m = None
+
+-- one code after another
+unfoldable pub characters : (Body → Machine → Outcome) → List ℕ → List ℕ → Machine → Outcome
+characters deeper key [] m = Some (m, [])
+characters deeper key (c ∷ cs) m = go_on (character deeper key c m.graphics.font m.graphics.place m) (characters deeper key cs)
+
+abbrev pub show_by : (Body → Machine → Outcome) → Option (List ℕ) → List ℕ → Place → Machine → Outcome
+show_by deeper (Some key) text p m = more (TextShown key text p ∷ []) (characters deeper key text m)
+show_by deeper None text p m = None
+
+abbrev pub show_at : (Body → Machine → Outcome) → Option ℕ → Option Place → List ℕ → Machine → Outcome
+show_at deeper (Some d) (Some p) text m = show_by deeper (font_key (entries_of (slice_get m.store d)) m.store) text p m
+show_at deeper _ _ text m = None
+
+abbrev pub show_effect : (Body → Machine → Outcome) → List Object → Machine → Outcome
+show_effect deeper (Text text ∷ rest) m = show_at deeper m.graphics.font m.graphics.place text (record m { operands = rest })
+show_effect deeper _ m = None
+
 -- Pages.
 abbrev pub first_frame : Frame
 first_frame = record { scale_x = whole (pos 1); scale_y = whole (pos 1); offset_x = whole (pos 0); offset_y = whole (pos 0) }
@@ -256,29 +418,40 @@ show_page (Some (suc n)) m =
     if nat_lt (suc n) 65536 then Some (record m { graphics = record m.graphics { frame = first_frame; place = None } }, Shown (suc n) (held_glyphs m.fonts m.store) ∷ []) else None
 show_page _ m = None
 
--- What an operator does, where `beside` runs a procedure at the level at which the operator itself runs.
-abbrev pub effect : (Body → Machine → Outcome) → Operator → Machine → Outcome
-effect beside Def m = quiet (def_effect m.operands m)
-effect beside Exch m = quiet (exch_effect m.operands m)
-effect beside Dup m = quiet (dup_effect m.operands m)
-effect beside Dict m = quiet (with_count m.operands (λ n rest. make (Entries n []) Dictionary rest m))
-effect beside Begin m = quiet (begin_effect m.operands m)
-effect beside End m = quiet (end_effect m.dictionaries m)
-effect beside OpenArray m = quiet (push Mark m)
-effect beside CloseArray m = quiet (close_effect (down_to_mark m.operands []) m)
-effect beside Add m = quiet (with_pair m.operands (λ x y rest. Some (record m { operands = Number (plus x y) ∷ rest })))
-effect beside Mul m = quiet (with_pair m.operands (λ x y rest. Some (record m { operands = Number (times x y) ∷ rest })))
-effect beside Div m = quiet (with_pair m.operands (λ x y rest. with_quotient (over x y) rest m))
-effect beside Neg m = quiet (with_number m.operands (λ x rest. Some (record m { operands = Number (negative x) ∷ rest })))
-effect beside SaveState m = quiet (save_effect m)
-effect beside Restore m = quiet (restore_effect m.operands m)
-effect beside Gsave m = quiet (gsave_effect m)
-effect beside Grestore m = quiet (grestore_effect m.pushed m)
-effect beside Translate m = quiet (with_pair m.operands (λ x y rest. Some (with_frame (translated m.graphics.frame x y) rest m)))
-effect beside Scale m = quiet (with_pair m.operands (λ x y rest. scale_effect x y rest m))
-effect beside Moveto m = quiet (with_pair m.operands (λ x y rest. Some (at_place (point m.graphics.frame x y) rest m)))
-effect beside Rmoveto m =
+-- What an operator does, where `beside` runs a procedure at the level at which the operator itself runs, and `deeper` one level deeper.
+abbrev pub effect : (Body → Machine → Outcome) → (Body → Machine → Outcome) → Operator → Machine → Outcome
+effect deeper beside Def m = quiet (def_effect m.operands m)
+effect deeper beside Exch m = quiet (exch_effect m.operands m)
+effect deeper beside Dup m = quiet (dup_effect m.operands m)
+effect deeper beside Pop m = quiet (pop_effect m.operands m)
+effect deeper beside Index m = quiet (index_effect m.operands m)
+effect deeper beside Roll m = quiet (roll_effect m.operands m)
+effect deeper beside Dict m = quiet (with_count m.operands (λ n rest. make (Entries n []) Dictionary rest m))
+effect deeper beside Begin m = quiet (begin_effect m.operands m)
+effect deeper beside End m = quiet (end_effect m.dictionaries m)
+effect deeper beside OpenArray m = quiet (push Mark m)
+effect deeper beside CloseArray m = quiet (close_effect (down_to_mark m.operands []) m)
+effect deeper beside NewArray m = quiet (with_count m.operands (λ n rest. make (Elements (replicate n Null)) Array rest m))
+effect deeper beside Put m = put_effect m.operands m
+effect deeper beside Get m = quiet (get_effect m.operands m)
+effect deeper beside Aload m = quiet (aload_effect m.operands m)
+effect deeper beside Add m = quiet (with_pair m.operands (λ x y rest. Some (record m { operands = Number (plus x y) ∷ rest })))
+effect deeper beside Mul m = quiet (with_pair m.operands (λ x y rest. Some (record m { operands = Number (times x y) ∷ rest })))
+effect deeper beside Div m = quiet (with_pair m.operands (λ x y rest. with_quotient (over x y) rest m))
+effect deeper beside Neg m = quiet (with_number m.operands (λ x rest. Some (record m { operands = Number (negative x) ∷ rest })))
+effect deeper beside SaveState m = quiet (save_effect m)
+effect deeper beside Restore m = quiet (restore_effect m.operands m)
+effect deeper beside Gsave m = quiet (gsave_effect m)
+effect deeper beside Grestore m = quiet (grestore_effect m.pushed m)
+effect deeper beside Translate m = quiet (with_pair m.operands (λ x y rest. Some (with_frame (translated m.graphics.frame x y) rest m)))
+effect deeper beside Scale m = quiet (with_pair m.operands (λ x y rest. scale_effect x y rest m))
+effect deeper beside Moveto m = quiet (with_pair m.operands (λ x y rest. Some (at_place (point m.graphics.frame x y) rest m)))
+effect deeper beside Rmoveto m =
     quiet (with_pair m.operands (λ x y rest. with_place m.graphics.place (λ p. Some (at_place (moved m.graphics.frame x y p) rest m))))
-effect beside Currentpoint m = quiet (with_place m.graphics.place (push_place m))
-effect beside Imagemask m = imagemask_effect beside m.operands m
-effect beside Showpage m = show_page (option_and_then count_of (value_in m.store m.dictionaries (codes "#copies"))) m
+effect deeper beside Currentpoint m = quiet (with_place m.graphics.place (push_place m))
+effect deeper beside Definefont m = definefont_effect m.operands m
+effect deeper beside Setfont m = quiet (setfont_effect m.operands m)
+effect deeper beside Show m = show_effect deeper m.operands m
+effect deeper beside Setcachedevice m = quiet (setcachedevice_effect m.operands m)
+effect deeper beside Imagemask m = imagemask_effect beside m.operands m
+effect deeper beside Showpage m = show_page (option_and_then count_of (value_in m.store m.dictionaries (codes "#copies"))) m
