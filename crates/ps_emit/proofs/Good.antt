@@ -6,7 +6,9 @@ use Rattle.std.specs.Ordering.{int_eq}
 use Rattle.std.proofs.lemmas.Bool.Decides.{nat_tests}
 use Rattle.std.proofs.lemmas.Int.{ints}
 use Rattle.dv_base.specs.FileName as name
-use Rattle.ps_subset.specs.RuleText.{Item, AllNotes, AllGoodItems, AllGoodPages, IsInRange, is_one_line}
+use Rattle.ps_subset.specs.RuleText.{Item, AllGoodItems, AllGoodPages}
+use Rattle.ps_subset.specs.Lines.{AllNotes, is_one_line}
+use Rattle.ps_subset.specs.Job.{IsInRange}
 use Rattle.ps_subset.specs.RuleText.Item.{Across, Down, To, Rule}
 use Rattle.ps_subset.proofs.Numbers.{and_left, and_right, one_line-append, one_line-decimal}
 use Rattle.ps_emit.specs.declared.setup.Setup.{Setup}

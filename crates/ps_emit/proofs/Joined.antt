@@ -2,7 +2,8 @@
 use Rattle.std.proofs.Common.{◌≡◌, refl, ap, ◌∙◌, ℕ, List, [], ◌∷◌, ◌++◌, Bool, append_assoc}
 use Rattle.std.specs.Prelude.{codes}
 use Rattle.ps_subset.specs.Prolog.{line, prolog}
-use Rattle.ps_subset.specs.RuleText.{comment_line, head_lines, setup_lines, pages_lines, section_lines, item_lines, page_comment}
+use Rattle.ps_subset.specs.Lines.{comment_line, head_lines, setup_lines}
+use Rattle.ps_subset.specs.RuleText.{pages_lines, section_lines, item_lines, page_comment}
 use Rattle.ps_emit.specs.Items.{items_of, origin}
 use Rattle.ps_emit.specs.Setup.{head_of, job_of}
 use Rattle.ps_emit.specs.PagesText.{RulePage, pages_of, pages_calls, sections_of}

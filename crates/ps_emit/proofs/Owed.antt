@@ -6,7 +6,9 @@ use Rattle.std.specs.Ordering.{int_eq}
 use Rattle.std.specs.Cmp.{signed_Decides}
 use Rattle.std.proofs.lemmas.Int.{ints}
 use Rattle.ps_subset.specs.State.{Shown}
-use Rattle.ps_subset.specs.RuleText.{Item, Job, masks_from, page_comment, pages_events, comment_events, head_events, events_of}
+use Rattle.ps_subset.specs.RuleText.{Item, masks_from, page_comment, pages_events, events_of}
+use Rattle.ps_subset.specs.Job.{Job}
+use Rattle.ps_subset.specs.Lines.{comment_events, head_events}
 use Rattle.ps_subset.specs.RuleText.Item.{Across, Down, To, Rule}
 use Rattle.ps_subset.proofs.Whole.{events_of_text, events_of_cut_text}
 use Rattle.ps_emit.specs.declared.setup.Setup.{Setup}

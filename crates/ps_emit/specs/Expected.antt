@@ -2,7 +2,8 @@
 use Rattle.std.specs.Prelude.{ℕ, List, [], ◌∷◌, ◌++◌, pos, ◌+ℤ◌, ◌-ℤ◌, codes, decimal, Bool, None}
 use Rattle.std.specs.Fmt.{signed_decimal}
 use Rattle.ps_subset.specs.State.{Event, Mask, Shown}
-use Rattle.ps_subset.specs.RuleText.{Job, pixel_place, pixels_size, comment_events, head_events}
+use Rattle.ps_subset.specs.Job.{Job, pixel_place, pixels_size}
+use Rattle.ps_subset.specs.Lines.{comment_events, head_events}
 use Rattle.ps_emit.specs.Items.{Painted}
 use Rattle.ps_emit.specs.PagesText.{RulePage}
 use Rattle.ps_emit.specs.Setup.{head_of, job_of}

@@ -1,7 +1,8 @@
 -- The text of a job whose pages are painted rules, and the way in which the calls of the writer put it together.
 use Rattle.std.specs.Prelude.{ℕ, List, [], ◌∷◌, ◌++◌, ℤ, codes, Bool}
 use Rattle.ps_subset.specs.Prolog.{line}
-use Rattle.ps_subset.specs.RuleText.{RuleText, Page, comment_line, item_lines, page_comment}
+use Rattle.ps_subset.specs.RuleText.{RuleText, Page, item_lines, page_comment}
+use Rattle.ps_subset.specs.Lines.{comment_line}
 use Rattle.ps_emit.specs.Items.{Painted, origin, items_of}
 use Rattle.ps_emit.specs.Setup.{head_of, job_of}
 use Rattle.ps_emit.specs.declared.setup.Setup.{Setup}

@@ -2,7 +2,8 @@
 use Rattle.std.specs.Prelude.{ℕ, ◌+◌, ◌*◌, ◌/◌, List, [], ◌∷◌, ◌++◌, ℤ, nat_abs, length, codes, decimal, Bool, true, false}
 use Rattle.dv_base.specs.FileName.{text_of}
 use Rattle.ps_subset.specs.Prolog.{line, prolog}
-use Rattle.ps_subset.specs.RuleText.{Job, comment_line, head_lines, setup_lines}
+use Rattle.ps_subset.specs.Job.{Job}
+use Rattle.ps_subset.specs.Lines.{comment_line, head_lines, setup_lines}
 use Rattle.ps_emit.specs.declared.setup.Setup.{Setup}
 
 -- a length in scaled points as whole points of PostScript, 72 an inch, rounded up

@@ -1,6 +1,6 @@
 //! The lines before the first page and behind the last.
 ghost use Rattle.std.specs.Prelude.{◌≡◌, ◌≤◌, ◌+◌, ◌++◌, length};
-ghost use Rattle.ps_subset.specs.RuleText.{comment_line};
+ghost use Rattle.ps_subset.specs.Lines.{comment_line};
 ghost use Rattle.ps_emit.specs.Setup.{head_text, job_text, points_up, trailer_of};
 
 use crate::setup::Setup;

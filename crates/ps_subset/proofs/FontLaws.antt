@@ -5,11 +5,13 @@ use Rattle.std.proofs.lemmas.List.{length-append}
 use Rattle.ps_subset.specs.Token as token
 use Rattle.ps_subset.specs.Token.{Token, Body, Then, End}
 use Rattle.ps_subset.specs.State.{Object, Literal, Array, Dictionary, Null, Entry, Cell, Elements, Entries, Machine, PutArray, FontMade, entry, with_entry, entries_of}
-use Rattle.ps_subset.specs.Operators.{all_below, with_font, holds_key, rolled}
+use Rattle.ps_subset.specs.StoreEffects.{all_below, holds_key}
+use Rattle.ps_subset.specs.FontEffects.{with_font}
+use Rattle.ps_subset.specs.StackEffects.{rolled}
 use Rattle.ps_subset.specs.Run.{Value, meaning_in}
 use Rattle.ps_subset.specs.Leads.{Meets}
 use Rattle.ps_subset.specs.Conditions.{HasProlog, OnTop, TakesKey, put_entry, number, name, procedure}
-use Rattle.ps_subset.specs.Fonts.{HasFontArrays, font_cells}
+use Rattle.ps_subset.specs.FontConditions.{HasFontArrays, font_cells}
 use Rattle.ps_subset.proofs.Dictionaries.{IsFree, HasProlog-put, slice_get-set_other}
 use Rattle.ps_subset.proofs.Steps.{◌▸◌, done, number_goes, literal_goes, procedure_goes, name_goes, value_goes, end_goes}
 use Rattle.ps_subset.proofs.FontSteps.{dict_goes, array_goes, begin_goes, roll_goes, put_goes, index_goes, definefont_goes, setfont_goes}

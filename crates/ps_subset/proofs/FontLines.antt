@@ -7,14 +7,16 @@ use Rattle.ps_subset.specs.Token as token
 use Rattle.ps_subset.specs.Token.{Token, body_of}
 use Rattle.ps_subset.specs.Reading.{reading_after, tokens_from, next, begin}
 use Rattle.ps_subset.specs.State.{Object, Literal, Array, Dictionary, Null, Entry, Cell, Elements, Entries, Machine, PutArray, FontMade, entry, with_entry, is_glyph, glyphs_from}
-use Rattle.ps_subset.specs.Operators.{all_below, with_font}
+use Rattle.ps_subset.specs.StoreEffects.{all_below}
+use Rattle.ps_subset.specs.FontEffects.{with_font}
 use Rattle.ps_subset.specs.Run.{Value, meaning_in, nests}
 use Rattle.ps_subset.specs.Prolog.{line}
-use Rattle.ps_subset.specs.RuleText.{IsInRange}
+use Rattle.ps_subset.specs.Job.{IsInRange}
 use Rattle.ps_subset.specs.Leads.{Goes}
 use Rattle.ps_subset.specs.Conditions.{HasProlog, OnTop, TakesKey, put_entry, font_matrix_cell}
-use Rattle.ps_subset.specs.Fonts.{Letter, Font, font_name, IsGoodGlyph, glyph_elements, shift_cell, IsFont, HoldsLetter, AllHeld, HasFontArrays, font_entries, letter_codes, AllBytes}
-use Rattle.ps_subset.specs.PrintText.{letter_line, letter_lines, font_lines, letters_events, letters_held, AllGoodLetters}
+use Rattle.ps_subset.specs.Fonts.{Letter, Font, font_name, IsGoodGlyph, letter_codes, AllBytes}
+use Rattle.ps_subset.specs.FontConditions.{glyph_elements, shift_cell, IsFont, HoldsLetter, AllHeld, HasFontArrays, font_entries}
+use Rattle.ps_subset.specs.FontText.{letter_line, letter_lines, font_lines, letters_events, letters_held, AllGoodLetters}
 use Rattle.ps_subset.proofs.Dictionaries.{slice_get-set_same, slice_get-set_other}
 use Rattle.ps_subset.proofs.Steps.{nat_lt_yes, ◌▸◌, done, number_goes, literal_goes, procedure_goes, true_goes}
 use Rattle.ps_subset.proofs.FontSteps.{open_goes, close_goes}

@@ -6,7 +6,11 @@ use Rattle.ps_subset.specs.Token as token
 use Rattle.ps_subset.specs.Token.{Token, Body, Then, End}
 use Rattle.ps_subset.specs.Fraction.{Fraction, whole, is_zero, natural_of}
 use Rattle.ps_subset.specs.State.{Object, Number, Literal, Text, Procedure, Truth, Array, Dictionary, Mark, Null, Entry, Elements, Entries, Machine, FontMade, Character, Outcome, quiet, go_on, entry, entries_of, elements_of}
-use Rattle.ps_subset.specs.Operators.{Dict, Begin, OpenArray, CloseArray, NewArray, Put, Get, Aload, Pop, Index, Roll, Definefont, Setfont, Setcachedevice, Imagemask, holds_key, down_to_mark, rolled, put_events, with_font, row_bytes, rows_mark, mask_events, mask_at, mask_by, painted, imagemask_effect}
+use Rattle.ps_subset.specs.Operators.{Dict, Begin, OpenArray, CloseArray, NewArray, Put, Get, Aload, Pop, Index, Roll, Definefont, Setfont, Setcachedevice, Imagemask}
+use Rattle.ps_subset.specs.StoreEffects.{holds_key, down_to_mark, put_events}
+use Rattle.ps_subset.specs.StackEffects.{rolled}
+use Rattle.ps_subset.specs.FontEffects.{with_font}
+use Rattle.ps_subset.specs.MaskEffects.{row_bytes, rows_mark, mask_events, mask_at, mask_by, painted, imagemask_effect}
 use Rattle.ps_subset.specs.Run.{meet, run_beside, run_deeper}
 use Rattle.ps_subset.specs.Leads.{Meets, Goes}
 use Rattle.ps_subset.specs.Conditions.{HasProlog, TakesKey, put_entry, number}

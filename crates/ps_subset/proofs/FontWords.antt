@@ -9,9 +9,9 @@ use Rattle.std.proofs.lemmas.List.{append-nil}
 use Rattle.std.proofs.lemmas.Fmt.{decimal_is_IsNumeral, digits_decimal, decimal_nonempty}
 use Rattle.ps_subset.specs.Token.{Number, Name, Literal, Block}
 use Rattle.ps_subset.specs.Reading.{Word, LiteralWord, Comment, Passing, between, tokens_from, next, begin, number_of, number_or_name, announced, comment_ends}
-use Rattle.ps_subset.specs.RuleText.{IsInRange}
+use Rattle.ps_subset.specs.Job.{IsInRange}
 use Rattle.ps_subset.specs.Fonts.{font_name}
-use Rattle.ps_subset.specs.PrintText.{block_lines}
+use Rattle.ps_subset.specs.Blocks.{block_lines}
 use Rattle.ps_subset.proofs.Reading.{Reads}
 use Rattle.ps_subset.proofs.Numbers.{own, word_reads, begins, number_of_digits, minus_of_digits, digit_regular, first_digit, more_digits, one_line-append, one_line-decimal}
 use Rattle.ps_subset.proofs.Comments.{passes}

@@ -6,7 +6,7 @@ use Rattle.std.proofs.lemmas.Bool.Decides.{nat_tests}
 use Rattle.ps_subset.specs.Token.{Token, Text, Procedure, body_of, depth, depth_within, procedure_of}
 use Rattle.ps_subset.specs.Reading.{Hex, Between, between, tokens_from, next, begin, is_white, hex_digit, hex_pairs, without_white, text_of}
 use Rattle.ps_subset.specs.Fonts.{AllBytes}
-use Rattle.ps_subset.specs.PrintText.{hex_glyph, hex_text}
+use Rattle.ps_subset.specs.FontText.{hex_glyph, hex_text}
 use Rattle.ps_subset.proofs.Reading.{Reads}
 use Rattle.ps_subset.proofs.FontSteps.{nat_le_yes}
 

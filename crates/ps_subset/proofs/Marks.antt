@@ -5,14 +5,15 @@ use Rattle.std.proofs.lemmas.List.{append-nil}
 use Rattle.std.proofs.lemmas.Bool.Decides.{nat_tests}
 use Rattle.ps_subset.specs.Fraction.{same_ℤ}
 use Rattle.ps_subset.specs.State.{Event, Note, Block, PutArray, FontMade, TextShown, Mask, Shown}
-use Rattle.ps_subset.specs.Operators.{mask_events, rows_mark}
-use Rattle.ps_subset.specs.RuleText.{Job, pixel_place, per_pixel, rule_mask}
+use Rattle.ps_subset.specs.MaskEffects.{mask_events, rows_mark}
+use Rattle.ps_subset.specs.Job.{Job, pixel_place, per_pixel, rule_mask}
 use Rattle.ps_subset.specs.Fonts.{Letter, font_name, letter_masks, string_masks, string_end, letter_codes}
-use Rattle.ps_subset.specs.PrintText.{Item, Stretch, Rule, Pen, first_pen, item_lines, pen_behind, next_place, lines_from, items_events}
-use Rattle.ps_subset.specs.PrintText as text
+use Rattle.ps_subset.specs.Items.{Item, Stretch, Rule, Pen, first_pen, item_lines, pen_behind, next_place, lines_from, items_events}
+use Rattle.ps_subset.specs.Items as item
 use Rattle.ps_subset.specs.Marks.{Mark, Glyph, Bar, Passed, Open, goes_on, opened, joined, closed, flushed, grouped, marks_events, without_texts, ItemsOfMarks, Sheet, first_sheet, closing, pen_closed, is_continued, written, with_letter, behind, all_written, behind_all, LinesOfMarks, kept, kept_goes_on, kept_closing, kept_pen, kept_begun, with_code, WritesByCodes, MarksInParts, only_texts, StringsOfItems}
 use Rattle.ps_subset.proofs.Numbers.{and_left, and_right}
-use Rattle.ps_subset.proofs.PageItems.{same_is, length_codes}
+use Rattle.ps_subset.proofs.PageItems.{same_is}
+use Rattle.ps_subset.proofs.Stands.{length_codes}
 
 pub texts-append : (xs ys : List Event) → without_texts (xs ++ ys) ≡ without_texts xs ++ without_texts ys
 texts-append [] ys = refl
@@ -90,7 +91,7 @@ items_of_marks_from j (Glyph id l x y ∷ ms) (Some o) = go (goes_on o id x y) r
 items_of_marks_from j (Bar columns rows x y ∷ ms) stretch =
     flushed_events j stretch (Rule columns rows x y ∷ grouped None ms) ∙ ap (λ es. open_masks j stretch ++ (rule_mask j x y columns rows ∷ es)) (items_of_marks_from j ms None)
 items_of_marks_from j (Passed bytes x y ∷ ms) stretch =
-    flushed_events j stretch (text.Block bytes x y ∷ grouped None ms) ∙ ap (λ es. open_masks j stretch ++ (Block bytes ∷ es)) (items_of_marks_from j ms None)
+    flushed_events j stretch (item.Block bytes x y ∷ grouped None ms) ∙ ap (λ es. open_masks j stretch ++ (Block bytes ∷ es)) (items_of_marks_from j ms None)
 
 pub items_of_marks : ItemsOfMarks
 items_of_marks j ms = items_of_marks_from j ms None
@@ -129,8 +130,8 @@ writes_one s (Bar columns rows x y) ms =
     sym (append_assoc (closing s.pen s.stretch (Some (x, y))) (item_lines pen (Rule columns rows x y) None) (lines_from (pen_behind pen (Rule columns rows x y) None) (grouped None ms)))
 writes_one s (Passed bytes x y) ms =
     let pen = pen_closed s.pen s.stretch (Some (x, y)) in
-    follows s.pen s.stretch (text.Block bytes x y ∷ grouped None ms) (Some (x, y)) refl ∙
-    sym (append_assoc (closing s.pen s.stretch (Some (x, y))) (item_lines pen (text.Block bytes x y) None) (lines_from (pen_behind pen (text.Block bytes x y) None) (grouped None ms)))
+    follows s.pen s.stretch (item.Block bytes x y ∷ grouped None ms) (Some (x, y)) refl ∙
+    sym (append_assoc (closing s.pen s.stretch (Some (x, y))) (item_lines pen (item.Block bytes x y) None) (lines_from (pen_behind pen (item.Block bytes x y) None) (grouped None ms)))
 
 writes_all : (s : Sheet) (ms : List Mark) → lines_from s.pen (grouped s.stretch ms) ≡ all_written s ms ++ closing (behind_all s ms).pen (behind_all s ms).stretch None
 writes_all s [] = go s.stretch
@@ -218,4 +219,4 @@ strings_of_items j (Stretch id ls x y ∷ is) =
     ap (λ es. TextShown (font_name id) (letter_codes ls) (pixel_place j x y) ∷ es)
     (strings-append (string_masks j (font_name id) x y ls) (items_events j is) ∙ ap (λ es. es ++ only_texts (items_events j is)) (no_strings j (font_name id) x y ls) ∙ strings_of_items j is)
 strings_of_items j (Rule columns rows x y ∷ is) = strings_of_items j is
-strings_of_items j (text.Block bytes x y ∷ is) = strings_of_items j is
+strings_of_items j (item.Block bytes x y ∷ is) = strings_of_items j is

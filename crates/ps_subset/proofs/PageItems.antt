@@ -1,27 +1,27 @@
 -- The lines of a page's items give its events.
-use Rattle.std.proofs.Common.{◌≡◌, refl, ap, sym, ◌∙◌, subst, ℕ, suc, ◌+◌, ◌<◌, ◌≤◌, ◌^◌, List, [], ◌∷◌, ◌++◌, length, Option, Some, None, arith, Bool, true, false, ⊎_elim}
-use Rattle.std.specs.Prelude.{codes, ℤ, pos, negsuc, ◌+ℤ◌, ◌-ℤ◌, nat_eq, slice_get, slice_set, bytes_eq, if◌then◌else◌}
+use Rattle.std.proofs.Common.{◌≡◌, refl, ap, sym, ◌∙◌, subst, ℕ, suc, ◌+◌, ◌<◌, ◌≤◌, ◌^◌, List, [], ◌∷◌, ◌++◌, length, Option, Some, None, arith, Bool, true, false}
+use Rattle.std.specs.Prelude.{codes, ℤ, pos, negsuc, ◌+ℤ◌, ◌-ℤ◌, nat_eq, slice_set, bytes_eq, if◌then◌else◌}
 use Rattle.std.proofs.lemmas.Bool.Decides.{nat_tests}
 use Rattle.std.proofs.lemmas.Int.{ints}
 use Rattle.std.proofs.lemmas.List.{append-nil}
-use Rattle.ps_subset.specs.Token as token
-use Rattle.ps_subset.specs.Token.{Token}
 use Rattle.ps_subset.specs.Fraction.{whole, same_ℤ}
-use Rattle.ps_subset.specs.State as state
-use Rattle.ps_subset.specs.State.{Object, Number, Literal, Text, Dictionary, Entry, Cell, Entries, Elements, FontEntry, Character, Machine, Event, TextShown, entry, with_entry, entries_of, glyphs_from, held_glyphs}
+use Rattle.ps_subset.specs.State.{Object, Number, Text, Dictionary, Entry, Entries, Machine, Event, TextShown, with_entry}
 use Rattle.ps_subset.specs.Run.{Value, meaning_in, meet}
 use Rattle.ps_subset.specs.Prolog.{line}
-use Rattle.ps_subset.specs.RuleText.{Job, IsGoodJob, IsInRange, pixel_place, rule_mask, signed_field}
+use Rattle.ps_subset.specs.Job.{Job, IsGoodJob, IsInRange, pixel_place, rule_mask}
+use Rattle.ps_subset.specs.Lines.{signed_field}
 use Rattle.ps_subset.specs.Conditions.{HasProlog, OnTop, TakesKey, put_entry, job_frame}
-use Rattle.ps_subset.specs.Fonts.{Letter, Font, font_name, IsGoodGlyph, AllBytes, IsFont, HoldsLetter, AllHeld, string_masks, string_end, letter_codes}
+use Rattle.ps_subset.specs.Fonts.{Letter, Font, font_name, string_masks, string_end, letter_codes}
+use Rattle.ps_subset.specs.FontConditions.{IsFont, AllHeld}
 use Rattle.ps_subset.specs.FontNameLaws.{gone}
 use Rattle.ps_subset.specs.Ways.{short_name, near_name}
-use Rattle.ps_subset.specs.PrintText.{Item, Stretch, Rule, Block, x_of, y_of, Pen, first_pen, is_set, font_line, to_line, move_line, string_text, way_end, delta_behind, row_end, row_delta, stretch_end, pen_behind_stretch, block_lines, item_lines, pen_behind, next_place, lines_from, item_events, items_events, letters_held, fonts_held, IsIn, AllIn, font_in, IsSmall, IsGoodItem, AllGoodItems}
-use Rattle.ps_subset.proofs.Dictionaries.{bytes_refl, HasProlog-put, OnTop-put, put_stands, meaning_kept, entry-with_same, slice_set-set}
+use Rattle.ps_subset.specs.Items.{Item, Stretch, Rule, Block, x_of, y_of, Pen, first_pen, is_set, font_line, to_line, move_line, way_end, delta_behind, row_end, row_delta, stretch_end, pen_behind_stretch, item_lines, pen_behind, next_place, lines_from, item_events, items_events, AllIn, IsSmall, IsGoodItem, AllGoodItems}
+use Rattle.ps_subset.specs.Strings.{string_text}
+use Rattle.ps_subset.specs.Blocks.{block_lines}
+use Rattle.ps_subset.proofs.Dictionaries.{bytes_refl, HasProlog-put, OnTop-put, put_stands, entry-with_same, slice_set-set}
 use Rattle.ps_subset.proofs.Steps.{◌▸◌, done, ending, number_goes, value_goes}
 use Rattle.ps_subset.proofs.FontSteps.{text_goes}
 use Rattle.ps_subset.proofs.FontLaws.{F_goes}
-use Rattle.ps_subset.proofs.Stores.{Onward, Onward-set, AllHeld-onward, IsFont-onward, array_apart}
 use Rattle.ps_subset.proofs.Pixels.{a_pixel, w_pixel, x_pixel, v_pixel}
 use Rattle.ps_subset.proofs.Show.{p_pixel}
 use Rattle.ps_subset.proofs.Ways.{delta_free, short_pixel, y_pixel, b_pixel, near_pixel, short_stands, near_stands, short_reads, near_reads}
@@ -30,113 +30,9 @@ use Rattle.ps_subset.proofs.Numbers.{signed_reads}
 use Rattle.ps_subset.proofs.Strings.{string_reads}
 use Rattle.ps_subset.proofs.FontWords.{font_name_reads, block_reads}
 use Rattle.ps_subset.proofs.Runs.{Runs, Runs-append, nothing_runs}
-
--- a font of a section, and where its dictionary is
-pub record Placed : Type 0 where
-  pub font : Font
-  pub at : ℕ
-
-abbrev pub fonts_of : List Placed → List Font
-fonts_of [] = []
-fonts_of (p ∷ ps) = p.font ∷ fonts_of ps
-
--- the font directory of these fonts
-abbrev pub directory : List Placed → List FontEntry
-directory [] = []
-directory (p ∷ ps) = record { key = font_name p.font.id; dictionary = p.at } ∷ directory ps
-
--- the array holds exactly these letters
-pub record HoldsAll (key : List ℕ) (glyphs : ℕ) (ls : List Letter) (store : List Cell) : Type 0 where
-  pub table : List Object
-  pub table_is : slice_get store glyphs ≡ Some (Elements table)
-  pub held : glyphs_from key 0 table ≡ letters_held key ls
-
--- a font that stands for its name, away from the dictionary at d
-pub record Stands (d : ℕ) (p : Placed) (store : List Cell) (ds : List ℕ) : Type 0 where
-  pub name_is : meaning_in store ds (font_name p.font.id) ≡ Value (Dictionary p.at)
-  pub apart : d ≡ p.at → ⊥
-  pub font_is : IsFont (font_name p.font.id) p.at (suc p.at) store
-  pub letters : AllHeld (suc p.at) p.font.letters store
-  pub all : HoldsAll (font_name p.font.id) (suc p.at) p.font.letters store
-  pub codes_fit : AllBytes (letter_codes p.font.letters)
-  pub small : p.font.id < 2 ^ 63
-
-abbrev pub AllStand : ℕ → List Placed → List Cell → List ℕ → Type 0
-AllStand d [] store ds = Unit {0}
-AllStand d (p ∷ ps) store ds = Stands d p store ds × AllStand d ps store ds
-
--- a key that is none of the fonts' names
-abbrev pub NoFont : List ℕ → List Placed → Type 0
-NoFont key [] = Unit {0}
-NoFont key (p ∷ ps) = (bytes_eq key (font_name p.font.id) ≡ false) × NoFont key ps
-
-pub AllStand-put : {room : ℕ} {es : List Entry} (d : ℕ) (store : List Cell) (ds : List ℕ) (ps : List Placed) (key : List ℕ) (v : Object) → slice_get store d ≡ Some (Entries room es) → NoFont key ps → AllStand d ps store ds → AllStand d ps (put_entry store d room es key v) ds
-AllStand-put d store ds [] key v here off all = tt
-AllStand-put {room} {es} d store ds (p ∷ ps) key v here off all =
-    let s = all.0 in
-    let on : Onward d store (put_entry store d room es key v) = Onward-set d store (Entries room (with_entry key v es)) in (
-      record {
-        name_is = meaning_kept store d room es key v here (font_name p.font.id) ds off.0 ∙ s.name_is;
-        apart = s.apart;
-        font_is = IsFont-onward on here s.apart s.font_is;
-        letters = AllHeld-onward on here (suc p.at) p.font.letters s.letters;
-        all = record { table = s.all.table; table_is = on.by (suc p.at) (Elements s.all.table) (array_apart store (suc p.at) here s.all.table_is) s.all.table_is; held = s.all.held };
-        codes_fit = s.codes_fit;
-        small = s.small;
-      },
-      AllStand-put d store ds ps key v here off.1 all.1,
-    )
-
--- what the fonts hold
-pub held_is : (d : ℕ) (store : List Cell) (ds : List ℕ) (ps : List Placed) → AllStand d ps store ds → held_glyphs (directory ps) store ≡ fonts_held (fonts_of ps)
-held_is d store ds [] all = refl
-held_is d store ds (p ∷ ps) all =
-    let s = all.0 in
-    rw (s.font_is.dictionary_is, s.font_is.glyphs_are, s.all.table_is, s.all.held, held_is d store ds ps all.1) refl
-
--- the font of a number
-abbrev pub placed_in : List Placed → ℕ → Option Placed
-placed_in [] id = None
-placed_in (p ∷ ps) id = if nat_eq p.font.id id then Some p else placed_in ps id
-
-pub found_in : (ps : List Placed) (id : ℕ) (f : Font) → font_in (fonts_of ps) id ≡ Some f → (p : Placed) × (placed_in ps id ≡ Some p) × (p.font ≡ f) × (p.font.id ≡ id)
-found_in [] id f h = absurd (grind arith)
-found_in (p ∷ ps) id f h = go (nat_eq p.font.id id) refl h (λ e. found_in ps id f e)
-  where
-    go : (b : Bool) → nat_eq p.font.id id ≡ b → (if b then Some p.font else font_in (fonts_of ps) id) ≡ Some f → (font_in (fonts_of ps) id ≡ Some f → (q : Placed) × (placed_in ps id ≡ Some q) × (q.font ≡ f) × (q.font.id ≡ id)) →
-        (q : Placed) × ((if b then Some p else placed_in ps id) ≡ Some q) × (q.font ≡ f) × (q.font.id ≡ id)
-    go true e k ih = (p, refl, grind (arith, k), grind (arith, nat_tests, e))
-    go false e k ih = ih k
-
-stands_of : {d : ℕ} {store : List Cell} {ds : List ℕ} (ps : List Placed) (id : ℕ) (p : Placed) → placed_in ps id ≡ Some p → AllStand d ps store ds → Stands d p store ds
-stands_of [] id p h all = absurd (grind arith)
-stands_of {d} {store} {ds} (q ∷ ps) id p h all = go (nat_eq q.font.id id) h (λ e. stands_of ps id p e all.1)
-  where
-    go : (b : Bool) → (if b then Some q else placed_in ps id) ≡ Some p → (placed_in ps id ≡ Some p → Stands d p store ds) → Stands d p store ds
-    go true k ih = let e : q ≡ p = grind (arith, k) in subst (λ z. Stands d z store ds) e all.0
-    go false k ih = ih k
-
--- letters of a font that is held
-held_in : (glyphs : ℕ) (store : List Cell) (l : Letter) (xs : List Letter) → IsIn l xs → AllHeld glyphs xs store → HoldsLetter glyphs l store × IsGoodGlyph l.glyph
-held_in glyphs store l [] i all = absurd i
-held_in glyphs store l (x ∷ xs) i all =
-    ⊎_elim (λ e. subst (λ z. HoldsLetter glyphs z store × IsGoodGlyph z.glyph) e (all.0, all.1)) (λ k. held_in glyphs store l xs k all.2) i
-
-pub all_held_in : (glyphs : ℕ) (store : List Cell) (ls xs : List Letter) → AllIn ls xs → AllHeld glyphs xs store → AllHeld glyphs ls store
-all_held_in glyphs store [] xs i all = tt
-all_held_in glyphs store (l ∷ ls) xs i all = let one = held_in glyphs store l xs i.0 all in (one.0, one.1, all_held_in glyphs store ls xs i.1 all)
-
-code_fits : (l : Letter) (xs : List Letter) → IsIn l xs → AllBytes (letter_codes xs) → l.code < 256
-code_fits l [] i all = absurd i
-code_fits l (x ∷ xs) i all = ⊎_elim (λ e. subst (λ (z : Letter). z.code < 256) e all.0) (λ k. code_fits l xs k all.1) i
-
-codes_fit_in : (ls xs : List Letter) → AllIn ls xs → AllBytes (letter_codes xs) → AllBytes (letter_codes ls)
-codes_fit_in [] xs i all = tt
-codes_fit_in (l ∷ ls) xs i all = (code_fits l xs i.0 all, codes_fit_in ls xs i.1 all)
-
-pub length_codes : (ls : List Letter) → length (letter_codes ls) ≡ length ls
-length_codes [] = refl
-length_codes (l ∷ ls) = ap suc (length_codes ls)
+use Rattle.ps_subset.proofs.Stands.{Placed, fonts_of, Stands, AllStand, NoFont, AllStand-put, placed_in, found_in, stands_of, all_held_in, codes_fit_in, length_codes}
+use Rattle.ps_subset.specs.Token as token
+use Rattle.ps_subset.specs.State as state
 
 -- delta, put again
 with_entry-with : (key : List ℕ) (v w : Object) (es : List Entry) → with_entry key w (with_entry key v es) ≡ with_entry key w es

@@ -10,7 +10,8 @@ use Rattle.ps_subset.specs.Fraction.{Fraction, whole, times, over, lowest, low}
 use Rattle.ps_subset.specs.State.{Object, Number, Dictionary, Machine, Entry, Cell, Entries, entry, value_in}
 use Rattle.ps_subset.specs.Operators.{Operator}
 use Rattle.ps_subset.specs.Run.{meaning_in, start, nests, Value, Operation, Named, table, operator_in}
-use Rattle.ps_subset.specs.RuleText.{Job, IsGoodJob, points, setup_lines}
+use Rattle.ps_subset.specs.Job.{Job, IsGoodJob, points}
+use Rattle.ps_subset.specs.Lines.{setup_lines}
 use Rattle.ps_subset.specs.Leads.{Goes}
 use Rattle.ps_subset.specs.Conditions.{HasProlog, OnTop, JobStands, number, names, prolog_entries, prolog_cells, prolog_state}
 use Rattle.ps_subset.proofs.Open.{machine_open}

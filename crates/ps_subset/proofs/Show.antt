@@ -6,12 +6,16 @@ use Rattle.ps_subset.specs.Token as token
 use Rattle.ps_subset.specs.Token.{Token, Body, Then, End}
 use Rattle.ps_subset.specs.Fraction.{Fraction, whole, plus, minus, times, negative, size, is_zero, natural_of}
 use Rattle.ps_subset.specs.State.{Object, Text, Array, Dictionary, Cell, Place, Machine, Mask, TextShown, Character, go_on, more, entry, entries_of}
-use Rattle.ps_subset.specs.Operators.{Show, characters, character, show_effect, show_at, show_by, font_key, in_character, mask_events, mask_at, rows_mark, at_place}
+use Rattle.ps_subset.specs.Operators.{Show}
+use Rattle.ps_subset.specs.FontEffects.{characters, character, show_effect, show_at, show_by, font_key, in_character}
+use Rattle.ps_subset.specs.MaskEffects.{mask_events, mask_at, rows_mark}
+use Rattle.ps_subset.specs.GraphicsEffects.{at_place}
 use Rattle.ps_subset.specs.Run.{run_deeper, nests}
-use Rattle.ps_subset.specs.RuleText.{Job, IsGoodJob, per_pixel, pixel_place}
+use Rattle.ps_subset.specs.Job.{Job, IsGoodJob, per_pixel, pixel_place}
 use Rattle.ps_subset.specs.Leads.{Meets}
 use Rattle.ps_subset.specs.Conditions.{HasProlog, number, job_frame}
-use Rattle.ps_subset.specs.Fonts.{Letter, IsGoodGlyph, IsFont, HoldsLetter, AllHeld, letter_masks, string_masks, string_end, letter_codes}
+use Rattle.ps_subset.specs.Fonts.{Letter, IsGoodGlyph, letter_masks, string_masks, string_end, letter_codes}
+use Rattle.ps_subset.specs.FontConditions.{IsFont, HoldsLetter, AllHeld}
 use Rattle.ps_subset.proofs.Equality.{objects_themselves}
 use Rattle.ps_subset.proofs.Fractions.{negative-times, times-one_left, IsReduced-lowest, IsReduced-negative}
 use Rattle.ps_subset.proofs.Pixels.{pixel_moves, size-lowest, size-negative}

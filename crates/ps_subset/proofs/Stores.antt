@@ -3,10 +3,12 @@ use Rattle.std.proofs.Common.{◌≡◌, refl, ap, sym, ◌∙◌, ℕ, zero, su
 use Rattle.std.specs.Prelude.{codes, slice_get, slice_set, nat_lt}
 use Rattle.std.proofs.lemmas.Bool.Decides.{nat_tests}
 use Rattle.ps_subset.specs.State.{Object, Array, Dictionary, Entry, Cell, Elements, Entries, entry, value_in}
-use Rattle.ps_subset.specs.Operators.{Operator, all_below, all_old, is_old}
+use Rattle.ps_subset.specs.Operators.{Operator}
+use Rattle.ps_subset.specs.StoreEffects.{all_below, all_old, is_old}
 use Rattle.ps_subset.specs.Run.{meaning_in, meaning_by, operator_in, table}
 use Rattle.ps_subset.specs.Conditions.{HasProlog, names}
-use Rattle.ps_subset.specs.Fonts.{Letter, IsFont, HoldsLetter, AllHeld}
+use Rattle.ps_subset.specs.Fonts.{Letter}
+use Rattle.ps_subset.specs.FontConditions.{IsFont, HoldsLetter, AllHeld}
 use Rattle.ps_subset.proofs.Numbers.{and_left, and_right}
 use Rattle.ps_subset.proofs.Steps.{nat_lt_yes}
 use Rattle.ps_subset.proofs.Dictionaries.{IsFree, off_name, off_operator, slice_get-set_other}

@@ -7,7 +7,7 @@ use Rattle.ps_subset.specs.Token.{Text}
 use Rattle.ps_subset.specs.Reading.{Quoted, between, tokens_from, next, begin, Plain, unescaped, prepend, text_of, is_octal, tokens}
 use Rattle.ps_subset.specs.Fonts.{AllBytes}
 use Rattle.ps_subset.specs.PrintLaws.{StringsRead}
-use Rattle.ps_subset.specs.PrintText.{escape, escapes, string_text}
+use Rattle.ps_subset.specs.Strings.{escape, escapes, string_text}
 use Rattle.ps_subset.proofs.Reading.{Reads}
 use Rattle.ps_subset.proofs.FontSteps.{nat_le_yes}
 use Rattle.ps_subset.proofs.Numbers.{and_left, and_right}

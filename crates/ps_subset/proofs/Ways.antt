@@ -5,12 +5,14 @@ use Rattle.ps_subset.specs.Token as token
 use Rattle.ps_subset.specs.Token.{Token}
 use Rattle.ps_subset.specs.Fraction.{whole}
 use Rattle.ps_subset.specs.State.{Object, Number, Text, Entry, Machine, entry}
-use Rattle.ps_subset.specs.Operators.{at_place, rolled}
+use Rattle.ps_subset.specs.GraphicsEffects.{at_place}
+use Rattle.ps_subset.specs.StackEffects.{rolled}
 use Rattle.ps_subset.specs.Run.{Value, meaning_in}
-use Rattle.ps_subset.specs.RuleText.{Job, IsGoodJob, pixel_place}
+use Rattle.ps_subset.specs.Job.{Job, IsGoodJob, pixel_place}
 use Rattle.ps_subset.specs.Leads.{Meets}
 use Rattle.ps_subset.specs.Conditions.{HasProlog, OnTop, TakesKey, number, name, procedure, names, job_frame}
-use Rattle.ps_subset.specs.Fonts.{Letter, IsFont, AllHeld, string_end, letter_codes}
+use Rattle.ps_subset.specs.Fonts.{Letter, string_end, letter_codes}
+use Rattle.ps_subset.specs.FontConditions.{IsFont, AllHeld}
 use Rattle.ps_subset.specs.FontNameLaws.{shown_events, gone}
 use Rattle.ps_subset.specs.Ways.{short_name, near_name}
 use Rattle.ps_subset.proofs.Fractions.{plus-whole}

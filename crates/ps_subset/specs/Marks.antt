@@ -3,9 +3,10 @@ use Rattle.std.specs.Prelude.{ℕ, ◌≡◌, List, [], ◌∷◌, ◌++◌, len
 use Rattle.ps_subset.specs.Fraction.{same_ℤ}
 use Rattle.ps_subset.specs.State as state
 use Rattle.ps_subset.specs.State.{Event, Note, PutArray, FontMade, TextShown, Mask, Shown}
-use Rattle.ps_subset.specs.RuleText.{Job, pixel_place, rule_mask}
+use Rattle.ps_subset.specs.Job.{Job, pixel_place, rule_mask}
 use Rattle.ps_subset.specs.Fonts.{Letter, font_name, letter_masks, letter_codes, string_end}
-use Rattle.ps_subset.specs.PrintText.{Item, Stretch, Rule, Block, Pen, first_pen, font_line, move_line, string_text, stretch_end, pen_behind_stretch, item_lines, pen_behind, lines_from, items_events}
+use Rattle.ps_subset.specs.Items.{Item, Stretch, Rule, Block, Pen, first_pen, font_line, move_line, stretch_end, pen_behind_stretch, item_lines, pen_behind, lines_from, items_events}
+use Rattle.ps_subset.specs.Strings.{string_text}
 
 -- a letter of a font whose reference point is at a pixel, a rule of columns and rows, and a block of bytes
 pub data Mark : Type 0 where

@@ -6,16 +6,21 @@ use Rattle.std.proofs.lemmas.Bool.Decides.{nat_tests}
 use Rattle.ps_subset.specs.Fraction.{same_ℤ}
 use Rattle.ps_subset.specs.State.{Event, Note, Block, PutArray, FontMade, Shown}
 use Rattle.ps_subset.specs.Run.{events}
-use Rattle.ps_subset.specs.RuleText.{Job, comment_events, head_events}
+use Rattle.ps_subset.specs.Job.{Job}
+use Rattle.ps_subset.specs.Lines.{comment_events, head_events}
 use Rattle.ps_subset.specs.Fonts.{Letter, Font, font_name, string_end}
-use Rattle.ps_subset.specs.PrintText as text
-use Rattle.ps_subset.specs.PrintText.{Item, Rule, items_events, letters_events, fonts_events, fonts_held, headers_events, font_in, IsIn, AllIn, IsSmall, AllGoodItems, IsGoodItem, page_comment, text_of, events_of, IsGoodText}
+use Rattle.ps_subset.specs.Printout as printout
+use Rattle.ps_subset.specs.Items as item
+use Rattle.ps_subset.specs.Items.{Item, Rule, items_events, font_in, IsIn, AllIn, IsSmall, AllGoodItems, IsGoodItem}
+use Rattle.ps_subset.specs.FontText.{letters_events, fonts_events, fonts_held}
+use Rattle.ps_subset.specs.Blocks.{headers_events}
+use Rattle.ps_subset.specs.Printout.{page_comment, text_of, events_of, IsGoodText}
 use Rattle.ps_subset.specs.Marks.{Mark, Glyph, Bar, Passed, Open, goes_on, opened, joined, closed, flushed, grouped, without_texts}
-use Rattle.ps_subset.specs.MarkText.{Page, Section, MarkText, page_of, pages_of, section_of, sections_of, printed, pages_owed, sections_owed, owed, IsGoodMark, AllGoodMarks, AllGoodPages, AllGoodSections, IsGoodMarkText, EventsOfMarkText, EventsOfCutMarkText}
+use Rattle.ps_subset.specs.Marked.{Page, Section, MarkedPrintout, page_of, pages_of, section_of, sections_of, printout_of, pages_owed, sections_owed, owed, IsGoodMark, AllGoodMarks, AllGoodPages, AllGoodSections, IsGoodMarked, EventsOfMarks, EventsOfCutMarks}
 use Rattle.ps_subset.proofs.Numbers.{and_right}
 use Rattle.ps_subset.proofs.Runs.{events_of_prefix}
 use Rattle.ps_subset.proofs.Marks.{texts-append, goes_on_is, items_of_marks, end_append}
-use Rattle.ps_subset.proofs.WholePrint.{events_of_print_text}
+use Rattle.ps_subset.proofs.Printouts.{events_of_printout}
 
 -- events in which nothing is a string
 texts_kept-append : (xs ys : List Event) {xs' ys' : List Event} → without_texts xs ≡ xs' → without_texts ys ≡ ys' → without_texts (xs ++ ys) ≡ xs' ++ ys'
@@ -41,21 +46,21 @@ fonts_kept : (fs : List Font) → without_texts (fonts_events fs) ≡ fonts_even
 fonts_kept [] = refl
 fonts_kept (f ∷ fs) = texts_kept-append (letters_events f.letters ++ FontMade (font_name f.id) ∷ []) _ (texts_kept-append (letters_events f.letters) (FontMade (font_name f.id) ∷ []) (letters_kept f.letters) refl) (fonts_kept fs)
 
-pages_kept : (comments : Bool) (copies : ℕ) (j : Job) (fonts : List Font) (ps : List Page) → without_texts (text.pages_events comments copies j fonts (pages_of ps)) ≡ pages_owed comments copies j fonts ps
+pages_kept : (comments : Bool) (copies : ℕ) (j : Job) (fonts : List Font) (ps : List Page) → without_texts (printout.pages_events comments copies j fonts (pages_of ps)) ≡ pages_owed comments copies j fonts ps
 pages_kept comments copies j fonts [] = refl
 pages_kept comments copies j fonts (p ∷ ps) =
-    texts_kept-append (text.page_events comments copies j fonts (page_of p)) _
+    texts_kept-append (printout.page_events comments copies j fonts (page_of p)) _
     (texts_kept-append (comment_events comments (page_comment (page_of p))) _ (comment_kept comments (page_comment (page_of p)))
     (texts_kept-append (items_events j (grouped None p.marks)) (Shown copies (fonts_held fonts) ∷ []) (items_of_marks j p.marks) refl))
     (pages_kept comments copies j fonts ps)
 
-sections_kept : (comments : Bool) (copies : ℕ) (j : Job) (ss : List Section) → without_texts (text.sections_events comments copies j (sections_of ss)) ≡ sections_owed comments copies j ss
+sections_kept : (comments : Bool) (copies : ℕ) (j : Job) (ss : List Section) → without_texts (printout.sections_events comments copies j (sections_of ss)) ≡ sections_owed comments copies j ss
 sections_kept comments copies j [] = refl
 sections_kept comments copies j (s ∷ ss) =
-    texts_kept-append (text.section_events comments copies j (section_of s)) _
+    texts_kept-append (printout.section_events comments copies j (section_of s)) _
     (texts_kept-append (fonts_events s.fonts) _ (fonts_kept s.fonts) (pages_kept comments copies j s.fonts s.pages)) (sections_kept comments copies j ss)
 
-all_kept : (t : MarkText) → without_texts (events_of (printed t)) ≡ owed t
+all_kept : (t : MarkedPrintout) → without_texts (events_of (printout_of t)) ≡ owed t
 all_kept t =
     let c = comment_kept t.comments in
     texts_kept-append (head_events t.head) _ (head_kept t.head)
@@ -64,7 +69,7 @@ all_kept t =
     (texts_kept-append (comment_events t.comments (codes "%%EndProlog")) _ (c (codes "%%EndProlog"))
     (texts_kept-append (comment_events t.comments (codes "%%BeginSetup")) _ (c (codes "%%BeginSetup"))
     (texts_kept-append (comment_events t.comments (codes "%%EndSetup")) _ (c (codes "%%EndSetup"))
-    (texts_kept-append (text.sections_events t.comments t.copies t.job (sections_of t.sections)) _ (sections_kept t.comments t.copies t.job t.sections)
+    (texts_kept-append (printout.sections_events t.comments t.copies t.job (sections_of t.sections)) _ (sections_kept t.comments t.copies t.job t.sections)
     (texts_kept-append (comment_events t.comments (codes "%%Trailer")) _ (c (codes "%%Trailer")) (c (codes "%%EOF")))))))))
 
 -- an open stretch is good
@@ -132,23 +137,23 @@ good_items fonts (Glyph id l x y ∷ ms) (Some o) g all =
     go true e one two = one (good_joined o id l x y e g all.0)
     go false e one two = (good_item o g, two)
 good_items fonts (Bar columns rows x y ∷ ms) s g all = good_flushed fonts s (Rule columns rows x y ∷ grouped None ms) g (all.0, good_items fonts ms None tt all.1)
-good_items fonts (Passed bytes x y ∷ ms) s g all = good_flushed fonts s (text.Block bytes x y ∷ grouped None ms) g (all.0, good_items fonts ms None tt all.1)
+good_items fonts (Passed bytes x y ∷ ms) s g all = good_flushed fonts s (item.Block bytes x y ∷ grouped None ms) g (all.0, good_items fonts ms None tt all.1)
 
-good_pages : (fonts : List Font) (ps : List Page) → AllGoodPages fonts ps → text.AllGoodPages fonts (pages_of ps)
+good_pages : (fonts : List Font) (ps : List Page) → AllGoodPages fonts ps → printout.AllGoodPages fonts (pages_of ps)
 good_pages fonts [] all = tt
 good_pages fonts (p ∷ ps) all = (record { label = (all.0).0; number = (all.0).1; items = good_items fonts p.marks None tt (all.0).2 }, good_pages fonts ps all.1)
 
-good_sections : (ss : List Section) → AllGoodSections ss → text.AllGoodSections (sections_of ss)
+good_sections : (ss : List Section) → AllGoodSections ss → printout.AllGoodSections (sections_of ss)
 good_sections [] all = tt
 good_sections (s ∷ ss) all = (record { fonts = (all.0).0; few = (all.0).1; pages = good_pages s.fonts s.pages (all.0).2 }, good_sections ss all.1)
 
-good_printed : (t : MarkText) → IsGoodMarkText t → IsGoodText (printed t)
+good_printed : (t : MarkedPrintout) → IsGoodMarked t → IsGoodText (printout_of t)
 good_printed t g = record { head = g.head; headers = g.headers; copies_some = g.copies_some; copies = g.copies; job = g.job; sections = good_sections t.sections g.sections }
 
-pub events_of_mark_text : EventsOfMarkText
-events_of_mark_text t g = (events_of (printed t), events_of_print_text (printed t) (good_printed t g), all_kept t)
+pub events_of_marks : EventsOfMarks
+events_of_marks t g = (events_of (printout_of t), events_of_printout (printout_of t) (good_printed t g), all_kept t)
 
-pub events_of_cut_mark_text : EventsOfCutMarkText
-events_of_cut_mark_text t g xs ys cut =
-    let p = events_of_prefix xs ys (events_of (printed t)) (subst (λ bytes. events bytes ≡ Some (events_of (printed t))) cut (events_of_print_text (printed t) (good_printed t g))) in
+pub events_of_cut_marks : EventsOfCutMarks
+events_of_cut_marks t g xs ys cut =
+    let p = events_of_prefix xs ys (events_of (printout_of t)) (subst (λ bytes. events bytes ≡ Some (events_of (printout_of t))) cut (events_of_printout (printout_of t) (good_printed t g))) in
     (p.0, without_texts p.1, p.2, sym (all_kept t) ∙ ap without_texts p.3 ∙ texts-append p.0 p.1)

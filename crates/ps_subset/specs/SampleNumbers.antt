@@ -2,11 +2,11 @@
 use Rattle.std.specs.Prelude.{◌≡◌, ◌∷◌, [], Some, None, pos}
 use Rattle.ps_subset.specs.State as state
 use Rattle.ps_subset.specs.Run.{events}
-use Rattle.ps_subset.specs.PrintText.{text_of}
-use Rattle.ps_subset.specs.PrintSamples.{sample_text}
+use Rattle.ps_subset.specs.Printout.{text_of}
+use Rattle.ps_subset.specs.PageSamples.{sample_text}
 
-abbrev pub OtherEvents : Type 0
-OtherEvents = events (text_of sample_text) ≡ Some (
+abbrev pub SampleNumbers : Type 0
+SampleNumbers = events (text_of sample_text) ≡ Some (
     state.Note (37 ∷ 33 ∷ 80 ∷ 83 ∷ 45 ∷ 65 ∷ 100 ∷ 111 ∷ 98 ∷ 101 ∷ 45 ∷ 50 ∷ 46 ∷ 48 ∷ []) ∷
     state.Note (37 ∷ 37 ∷ 66 ∷ 101 ∷ 103 ∷ 105 ∷ 110 ∷ 80 ∷ 114 ∷ 111 ∷ 108 ∷ 111 ∷ 103 ∷ []) ∷
     state.Block (47 ∷ 120 ∷ 123 ∷ []) ∷

@@ -5,11 +5,12 @@ use Rattle.ps_subset.specs.Token as token
 use Rattle.ps_subset.specs.State.{Machine, entry}
 use Rattle.ps_subset.specs.Run.{start, events}
 use Rattle.ps_subset.specs.Prolog.{line}
-use Rattle.ps_subset.specs.RuleText.{Job, points}
+use Rattle.ps_subset.specs.Job.{Job, points}
 use Rattle.ps_subset.specs.Conditions.{number, prolog_state}
-use Rattle.ps_subset.specs.Fonts.{HasFontArrays}
-use Rattle.ps_subset.specs.PrintText.{PrintText, text_of, events_of, headers_lines, headers_events, sections_lines, sections_events, AllShort, IsGoodText}
-use Rattle.ps_subset.specs.PrintLaws.{EventsOfPrintText, EventsOfCutPrintText}
+use Rattle.ps_subset.specs.FontConditions.{HasFontArrays}
+use Rattle.ps_subset.specs.Printout.{Printout, text_of, events_of, sections_lines, sections_events, IsGoodText}
+use Rattle.ps_subset.specs.Blocks.{headers_lines, headers_events, AllShort}
+use Rattle.ps_subset.specs.PrintLaws.{EventsOfPrintout, EventsOfCutPrintout}
 use Rattle.ps_subset.proofs.Open.{machine_open}
 use Rattle.ps_subset.proofs.Steps.{◌▸◌, done, end_goes}
 use Rattle.ps_subset.proofs.Reading.{end_reads}
@@ -17,7 +18,8 @@ use Rattle.ps_subset.proofs.Runs.{Runs, Runs-append, Runs-events, nothing_runs, 
 use Rattle.ps_subset.proofs.Comments.{head_runs, comment_runs}
 use Rattle.ps_subset.proofs.Setup.{prolog_runs, setup_runs, setup_state, setup_entries, setup_knows, setup_top, setup_job, setup_copies}
 use Rattle.ps_subset.proofs.PageItems.{block_runs}
-use Rattle.ps_subset.proofs.Sections.{IsReady, sections_run}
+use Rattle.ps_subset.proofs.Ready.{IsReady}
+use Rattle.ps_subset.proofs.Sections.{sections_run}
 
 setup_arrays : (copies : ℕ) (j : Job) → HasFontArrays 3 4 5 (setup_state copies j).store (1 ∷ 0 ∷ [])
 unfolding machine_open
@@ -53,7 +55,7 @@ headers_run : (hs : List (List ℕ)) (m : Machine) → AllShort hs → Runs (hea
 headers_run [] m all = nothing_runs m
 headers_run (h ∷ hs) m all = Runs-append (block_runs h m all.0) (headers_run hs m all.1)
 
-text_runs : (t : PrintText) (copies : ℕ) → t.copies ≡ suc copies → IsGoodText t → (m : Machine) × Runs (text_of t) start m (events_of t)
+text_runs : (t : Printout) (copies : ℕ) → t.copies ≡ suc copies → IsGoodText t → (m : Machine) × Runs (text_of t) start m (events_of t)
 text_runs t copies is good =
     let j = t.job in
     let few : suc copies < 65536 = subst (λ n. n < 65536) is good.copies in
@@ -72,13 +74,13 @@ text_runs t copies is good =
           (Runs-append sections.1 (Runs-append (comment (codes "%%Trailer") last refl refl) (Runs-append end (comment (codes "%%EOF") closed refl refl))))))))))),
     )
 
-pub events_of_print_text : EventsOfPrintText
-events_of_print_text t good = go t.copies refl
+pub events_of_printout : EventsOfPrintout
+events_of_printout t good = go t.copies refl
   where
     go : (n : ℕ) → t.copies ≡ n → events (text_of t) ≡ Some (events_of t)
     go zero is = absurd (omega (arith, good.copies_some))
     go (suc n) is = Runs-events (text_runs t n is good).1
 
-pub events_of_cut_print_text : EventsOfCutPrintText
-events_of_cut_print_text t good xs ys cut =
-    events_of_prefix xs ys (events_of t) (subst (λ bytes. events bytes ≡ Some (events_of t)) cut (events_of_print_text t good))
+pub events_of_cut_printout : EventsOfCutPrintout
+events_of_cut_printout t good xs ys cut =
+    events_of_prefix xs ys (events_of t) (subst (λ bytes. events bytes ≡ Some (events_of t)) cut (events_of_printout t good))

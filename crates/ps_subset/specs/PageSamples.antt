@@ -2,7 +2,9 @@
 use Rattle.std.specs.Prelude.{◌≡◌, List, [], ◌∷◌, Some, pos, negsuc, codes, true}
 use Rattle.ps_subset.specs.Run.{events}
 use Rattle.ps_subset.specs.Fonts.{Letter, Font}
-use Rattle.ps_subset.specs.PrintText.{PrintText, Item, Stretch, Rule, Block, first_pen, fonts_lines, lines_from, text_of, events_of}
+use Rattle.ps_subset.specs.Printout.{Printout, text_of, events_of}
+use Rattle.ps_subset.specs.Items.{Item, Stretch, Rule, Block, first_pen, lines_from}
+use Rattle.ps_subset.specs.FontText.{fonts_lines}
 
 abbrev pub letter_paren : Letter
 letter_paren = record { code = 40; glyph = record { columns = 9; rows = 2; hoff = negsuc 0; voff = pos 1; bytes = 255 ∷ 128 ∷ 1 ∷ 0 ∷ []; width = pos 5 } }
@@ -28,7 +30,7 @@ FontsBytes = fonts_lines two_fonts ≡ codes "/F0 FB\n40[9 2 true[1 0 0 1 -1 1]{
 abbrev pub ItemsBytes : Type 0
 ItemsBytes = lines_from first_pen many_items ≡ codes "F0 F\n(A)30 b\n(A)h\n(A)r\n(A\\310\\()10 7 y\nF12 F\n(A)10 20 y\n5 3 v\n30 w\n(A)40 25 y\n%TeXblock: 3\n}}\n\nF0 F\n40 25 a\n(A)-21 b\n(A)61 9 y\n1 2 v\n"
 
-abbrev pub sample_text : PrintText
+abbrev pub sample_text : Printout
 sample_text = record {
   comments = true;
   head = codes "%!PS-Adobe-2.0" ∷ [];

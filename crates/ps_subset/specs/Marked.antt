@@ -2,10 +2,14 @@
 use Rattle.std.specs.Prelude.{ℕ, ◌<◌, ◌≤◌, ◌^◌, ◌≡◌, List, [], ◌∷◌, ◌++◌, length, ℤ, pos, ◌+ℤ◌, ◌<ℤ◌, Bool, Some}
 use Rattle.ps_subset.specs.State.{Event, Shown}
 use Rattle.ps_subset.specs.Run.{events}
-use Rattle.ps_subset.specs.RuleText.{Job, IsGoodJob, IsInRange, AllNotes, comment_events, head_events}
+use Rattle.ps_subset.specs.Job.{Job, IsGoodJob, IsInRange}
+use Rattle.ps_subset.specs.Lines.{AllNotes, comment_events, head_events}
 use Rattle.ps_subset.specs.Fonts.{Font}
-use Rattle.ps_subset.specs.PrintText as text
-use Rattle.ps_subset.specs.PrintText.{PrintText, text_of, fonts_events, fonts_held, headers_events, font_in, IsIn, IsSmall, AllGoodFonts, AllShort, page_comment}
+use Rattle.ps_subset.specs.Printout as printout
+use Rattle.ps_subset.specs.Printout.{Printout, text_of, page_comment}
+use Rattle.ps_subset.specs.FontText.{fonts_events, fonts_held, AllGoodFonts}
+use Rattle.ps_subset.specs.Blocks.{headers_events, AllShort}
+use Rattle.ps_subset.specs.Items.{font_in, IsIn, IsSmall}
 use Rattle.ps_subset.specs.Marks.{Mark, Glyph, Bar, Passed, grouped, marks_events, without_texts}
 use Rattle.std.specs.Prelude.{None, codes}
 
@@ -18,7 +22,7 @@ pub record Section : Type 0 where
   pub fonts : List Font
   pub pages : List Page
 
-pub record MarkText : Type 0 where
+pub record MarkedPrintout : Type 0 where
   pub comments : Bool
   pub head : List (List ℕ)
   pub headers : List (List ℕ)
@@ -27,22 +31,22 @@ pub record MarkText : Type 0 where
   pub sections : List Section
 
 -- the text that prints it
-abbrev pub page_of : Page → text.Page
+abbrev pub page_of : Page → printout.Page
 page_of p = record { label = p.label; number = p.number; items = grouped None p.marks }
 
-abbrev pub pages_of : List Page → List text.Page
+abbrev pub pages_of : List Page → List printout.Page
 pages_of [] = []
 pages_of (p ∷ ps) = page_of p ∷ pages_of ps
 
-abbrev pub section_of : Section → text.Section
+abbrev pub section_of : Section → printout.Section
 section_of s = record { fonts = s.fonts; pages = pages_of s.pages }
 
-abbrev pub sections_of : List Section → List text.Section
+abbrev pub sections_of : List Section → List printout.Section
 sections_of [] = []
 sections_of (s ∷ ss) = section_of s ∷ sections_of ss
 
-abbrev pub printed : MarkText → PrintText
-printed t = record { comments = t.comments; head = t.head; headers = t.headers; copies = t.copies; job = t.job; sections = sections_of t.sections }
+abbrev pub printout_of : MarkedPrintout → Printout
+printout_of t = record { comments = t.comments; head = t.head; headers = t.headers; copies = t.copies; job = t.job; sections = sections_of t.sections }
 
 -- the events owed: the fonts of each section, and then the marks of its pages, each shown with the glyphs of the section
 abbrev pub page_owed : Bool → ℕ → Job → List Font → Page → List Event
@@ -56,7 +60,7 @@ abbrev pub sections_owed : Bool → ℕ → Job → List Section → List Event
 sections_owed comments copies j [] = []
 sections_owed comments copies j (s ∷ ss) = (fonts_events s.fonts ++ pages_owed comments copies j s.fonts s.pages) ++ sections_owed comments copies j ss
 
-abbrev pub owed : MarkText → List Event
+abbrev pub owed : MarkedPrintout → List Event
 owed t =
     head_events t.head ++
     (comment_events t.comments (codes "%%BeginProlog") ++
@@ -86,7 +90,7 @@ abbrev pub AllGoodSections : List Section → Type 0
 AllGoodSections [] = Unit {0}
 AllGoodSections (s ∷ ss) = (AllGoodFonts 0 s.fonts × (length s.fonts ≤ 1000) × AllGoodPages s.fonts s.pages) × AllGoodSections ss
 
-pub record IsGoodMarkText (t : MarkText) : Type 0 where
+pub record IsGoodMarked (t : MarkedPrintout) : Type 0 where
   pub head : AllNotes t.head
   pub headers : AllShort t.headers
   pub copies_some : 0 < t.copies
@@ -95,11 +99,11 @@ pub record IsGoodMarkText (t : MarkText) : Type 0 where
   pub sections : AllGoodSections t.sections
 
 -- Such a text has a run, and its events without the strings are those that its marks owe.
-abbrev pub EventsOfMarkText : Type 0
-EventsOfMarkText = (t : MarkText) → IsGoodMarkText t → (es : List Event) × (events (text_of (printed t)) ≡ Some es) × (without_texts es ≡ owed t)
+abbrev pub EventsOfMarks : Type 0
+EventsOfMarks = (t : MarkedPrintout) → IsGoodMarked t → (es : List Event) × (events (text_of (printout_of t)) ≡ Some es) × (without_texts es ≡ owed t)
 
 -- So it is with each cut of it, whose events without the strings are the first of those.
-abbrev pub EventsOfCutMarkText : Type 0
-EventsOfCutMarkText =
-    (t : MarkText) → IsGoodMarkText t → (xs ys : List ℕ) → text_of (printed t) ≡ xs ++ ys →
+abbrev pub EventsOfCutMarks : Type 0
+EventsOfCutMarks =
+    (t : MarkedPrintout) → IsGoodMarked t → (xs ys : List ℕ) → text_of (printout_of t) ≡ xs ++ ys →
     (so_far : List Event) × (later : List Event) × (events xs ≡ Some so_far) × (owed t ≡ without_texts so_far ++ later)
