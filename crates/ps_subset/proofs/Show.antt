@@ -48,8 +48,8 @@ CB_goes l k good h table held now fresh room =
 -- one letter, from the place p on
 character_is : (levels : ℕ) {matrix d glyphs : ℕ} {m : Machine} (key : List ℕ) (p : Place) (l : Letter) (k : HasProlog matrix m.store m.dictionaries) → IsFont key d glyphs m.store → HoldsLetter glyphs l m.store → IsGoodGlyph l.glyph → m.graphics.font ≡ Some d → m.graphics.place ≡ Some p → length m.operands + 22 ≤ 500 → length m.pushed < 31 →
     character (run_deeper (suc (suc (suc levels)))) key l.code m.graphics.font m.graphics.place m ≡
-    Some (
-      record m { graphics = record m.graphics { place = Some (record p { x = plus p.x (times m.graphics.frame.scale_x (whole l.glyph.width)) }) } },
+    (
+      Some (record m { graphics = record m.graphics { place = Some (record p { x = plus p.x (times m.graphics.frame.scale_x (whole l.glyph.width)) }) } }),
       mask_events (rows_mark l.glyph.columns l.glyph.rows l.glyph.bytes) (mask_at (Some (record { key = key; code = l.code })) (record m.graphics.frame { offset_x = p.x; offset_y = p.y }) (whole l.glyph.hoff) (whole l.glyph.voff) l.glyph.columns l.glyph.rows l.glyph.bytes),
     )
 unfolding run_deeper
@@ -61,7 +61,7 @@ character_is levels {matrix} {d} {glyphs} {m} key p l k font held good set here 
     let after = record m { graphics = record m.graphics { place = Some (record p { x = plus p.x (times m.graphics.frame.scale_x (whole l.glyph.width)) }) } } in
     let masks = mask_events (rows_mark l.glyph.columns l.glyph.rows l.glyph.bytes) (mask_at (Some (record { key = key; code = l.code })) (record m.graphics.frame { offset_x = p.x; offset_y = p.y }) (whole l.glyph.hoff) (whole l.glyph.voff) l.glyph.columns l.glyph.rows l.glyph.bytes) in
     (λ i. character deeper key l.code (set i) (here i) m) ∙
-    rw (font.dictionary_is, font.build_is, nat_lt_yes (length m.pushed) 31 pushable, nat_le_yes (length m.operands + 2) 500 (omega arith), ran.by, objects_themselves m.operands, here) (ap (λ es. Some (after, es)) (append-nil masks))
+    rw (font.dictionary_is, font.build_is, nat_lt_yes (length m.pushed) 31 pushable, nat_le_yes (length m.operands + 2) 500 (omega arith), ran.by, objects_themselves m.operands, here) (ap (λ es. (Some after, es)) (append-nil masks))
 
 -- a shift by a glyph's offset is a move
 turned : (a s : Fraction) (z : ℤ) → minus a (times s (whole z)) ≡ plus a (times s (whole (neg_ℤ z)))
@@ -92,21 +92,21 @@ module _ (j : Job) (good : IsGoodJob j) where
       λ i. record { x = across i; y = (pixel_place j x y).y }
 
   character_pixel : (levels : ℕ) {matrix d glyphs : ℕ} {m : Machine} (key : List ℕ) (x y : ℤ) (l : Letter) (k : HasProlog matrix m.store m.dictionaries) → IsFont key d glyphs m.store → HoldsLetter glyphs l m.store → IsGoodGlyph l.glyph → m.graphics.frame ≡ job_frame j → m.graphics.font ≡ Some d → m.graphics.place ≡ Some (pixel_place j x y) → length m.operands + 22 ≤ 500 → length m.pushed < 31 →
-      character (run_deeper (suc (suc (suc levels)))) key l.code m.graphics.font m.graphics.place m ≡ Some (record m { graphics = record m.graphics { place = Some (pixel_place j (x +ℤ l.glyph.width) y) } }, letter_masks j key x y l)
+      character (run_deeper (suc (suc (suc levels)))) key l.code m.graphics.font m.graphics.place m ≡ (Some (record m { graphics = record m.graphics { place = Some (pixel_place j (x +ℤ l.glyph.width) y) } }), letter_masks j key x y l)
   character_pixel levels {m = m} key x y l k font held fine frame set here room pushable =
       let g = l.glyph in
       let p = pixel_place j x y in
       character_is levels key p l k font held fine set here room pushable ∙
-      (λ i. Some (
-        record m { graphics = record m.graphics { place = Some (record p { x = plus p.x (times (frame i).scale_x (whole g.width)) }) } },
+      (λ i. (
+        Some (record m { graphics = record m.graphics { place = Some (record p { x = plus p.x (times (frame i).scale_x (whole g.width)) }) } }),
         mask_events (rows_mark g.columns g.rows g.bytes) (mask_at (Some (record { key = key; code = l.code })) (record (frame i) { offset_x = p.x; offset_y = p.y }) (whole g.hoff) (whole g.voff) g.columns g.rows g.bytes),
       )) ∙
-      (λ i. Some (record m { graphics = record m.graphics { place = Some (moves_on x y g.width i) } }, letter_mask_is key x y l i))
+      (λ i. (Some (record m { graphics = record m.graphics { place = Some (moves_on x y g.width i) } }), letter_mask_is key x y l i))
 
   characters_pixel : (levels : ℕ) {matrix d glyphs : ℕ} (key : List ℕ) (x y : ℤ) (ls : List Letter) (m : Machine) → HasProlog matrix m.store m.dictionaries → IsFont key d glyphs m.store → AllHeld glyphs ls m.store → m.graphics.frame ≡ job_frame j → m.graphics.font ≡ Some d → m.graphics.place ≡ Some (pixel_place j x y) → length m.operands + 22 ≤ 500 → length m.pushed < 31 →
-      characters (run_deeper (suc (suc (suc levels)))) key (letter_codes ls) m ≡ Some (record m { graphics = record m.graphics { place = Some (pixel_place j (string_end x ls) y) } }, string_masks j key x y ls)
+      characters (run_deeper (suc (suc (suc levels)))) key (letter_codes ls) m ≡ (Some (record m { graphics = record m.graphics { place = Some (pixel_place j (string_end x ls) y) } }), string_masks j key x y ls)
   unfolding characters
-  characters_pixel levels key x y [] m k font all frame set here room pushable = ap (λ o. Some (record m { graphics = record m.graphics { place = o } }, [])) here
+  characters_pixel levels key x y [] m k font all frame set here room pushable = ap (λ o. (Some (record m { graphics = record m.graphics { place = o } }), [])) here
   characters_pixel levels key x y (l ∷ ls) m k font all frame set here room pushable =
       let deeper = run_deeper (suc (suc (suc levels))) in
       let next = record m { graphics = record m.graphics { place = Some (pixel_place j (x +ℤ l.glyph.width) y) } } in

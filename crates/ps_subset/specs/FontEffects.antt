@@ -3,7 +3,7 @@
 use Rattle.std.specs.Prelude.{ℕ, ◌+◌, ◌-◌, List, [], ◌∷◌, Option, Some, None, Bool, false, if◌then◌else◌, ◌&&◌, nat_lt, nat_le, length, slice_get, codes, pos, bytes_eq}
 use Rattle.ps_subset.specs.Fraction.{Fraction, whole, plus, times, natural_of, is_zero}
 use Rattle.ps_subset.specs.Token.{Body}
-use Rattle.ps_subset.specs.State.{Object, Number, Literal, Text, Procedure, Array, Dictionary, Entry, Cell, Place, Graphics, FontEntry, Character, Machine, FontMade, TextShown, Outcome, quiet, more, go_on, entry, entries_of, same_objects}
+use Rattle.ps_subset.specs.State.{Object, Number, Literal, Text, Procedure, Array, Dictionary, Entry, Cell, Place, Graphics, FontEntry, Character, Machine, FontMade, TextShown, Outcome, quiet, failed, more, go_on, entry, entries_of, same_objects}
 use Rattle.ps_subset.specs.StoreEffects.{holds_key, defined}
 use Rattle.ps_subset.specs.MaskEffects.{is_number, shift_of}
 
@@ -13,13 +13,13 @@ with_font key d [] = record { key = key; dictionary = d } ∷ []
 with_font key d (f ∷ fs) = if bytes_eq f.key key then (record { key = key; dictionary = d } ∷ fs) else (f ∷ with_font key d fs)
 
 abbrev pub font_entered : Option (List Cell) → List ℕ → ℕ → List Object → Machine → Outcome
-font_entered (Some store) key d rest m = Some (record m { operands = Dictionary d ∷ rest; store = store; fonts = with_font key d m.fonts }, FontMade key ∷ [])
-font_entered None key d rest m = None
+font_entered (Some store) key d rest m = (Some (record m { operands = Dictionary d ∷ rest; store = store; fonts = with_font key d m.fonts }), FontMade key ∷ [])
+font_entered None key d rest m = failed
 
 -- the dictionary's FID becomes the key
 abbrev pub definefont_effect : List Object → Machine → Outcome
 definefont_effect (Dictionary d ∷ Literal key ∷ rest) m = font_entered (defined (slice_get m.store d) m.store d (codes "FID") (Literal key)) key d rest m
-definefont_effect _ m = None
+definefont_effect _ m = failed
 
 abbrev pub setfont_effect : List Object → Machine → Option Machine
 setfont_effect (Dictionary d ∷ rest) m =
@@ -74,30 +74,30 @@ taken_back _ _ m = None
 -- it has noted a width, and left the operands that were there
 abbrev pub built : Machine → Machine → Outcome
 built before m =
-    if same_objects m.operands before.operands then quiet (taken_back m.pushed m.width (record m { showing = before.showing; width = before.width })) else None
+    if same_objects m.operands before.operands then quiet (taken_back m.pushed m.width (record m { showing = before.showing; width = before.width })) else failed
 
 abbrev pub build_by : (Body → Machine → Outcome) → List ℕ → ℕ → ℕ → Place → Option Object → Machine → Outcome
 build_by deeper key d code p (Some (Procedure build)) m =
-    if nat_lt (length m.pushed) 31 && nat_le (length m.operands + 2) 500 then go_on (deeper build (in_character key d code p m)) (built m) else None
-build_by deeper key d code p _ m = None
+    if nat_lt (length m.pushed) 31 && nat_le (length m.operands + 2) 500 then go_on (deeper build (in_character key d code p m)) (built m) else failed
+build_by deeper key d code p _ m = failed
 
 abbrev pub character : (Body → Machine → Outcome) → List ℕ → ℕ → Option ℕ → Option Place → Machine → Outcome
 character deeper key code (Some d) (Some p) m = build_by deeper key d code p (entry (codes "BuildChar") (entries_of (slice_get m.store d))) m
-character deeper key code _ _ m = None
+character deeper key code _ _ m = failed
 
 -- one code after another
 unfoldable pub characters : (Body → Machine → Outcome) → List ℕ → List ℕ → Machine → Outcome
-characters deeper key [] m = Some (m, [])
+characters deeper key [] m = (Some m, [])
 characters deeper key (c ∷ cs) m = go_on (character deeper key c m.graphics.font m.graphics.place m) (characters deeper key cs)
 
 abbrev pub show_by : (Body → Machine → Outcome) → Option (List ℕ) → List ℕ → Place → Machine → Outcome
 show_by deeper (Some key) text p m = more (TextShown key text p ∷ []) (characters deeper key text m)
-show_by deeper None text p m = None
+show_by deeper None text p m = failed
 
 abbrev pub show_at : (Body → Machine → Outcome) → Option ℕ → Option Place → List ℕ → Machine → Outcome
 show_at deeper (Some d) (Some p) text m = show_by deeper (font_key (entries_of (slice_get m.store d)) m.store) text p m
-show_at deeper _ _ text m = None
+show_at deeper _ _ text m = failed
 
 abbrev pub show_effect : (Body → Machine → Outcome) → List Object → Machine → Outcome
 show_effect deeper (Text text ∷ rest) m = show_at deeper m.graphics.font m.graphics.place text (record m { operands = rest })
-show_effect deeper _ m = None
+show_effect deeper _ m = failed

@@ -2,7 +2,7 @@
 use Rattle.std.specs.Prelude.{ℕ, zero, suc, ◌+◌, ◌-◌, ◌*◌, ◌/◌, ◌^◌, List, [], ◌∷◌, Option, Some, None, Bool, true, false, if◌then◌else◌, ◌&&◌, ◌||◌, nat_eq, nat_lt, nat_le, length, slice_get, take, drop}
 use Rattle.ps_subset.specs.Fraction.{Fraction, minus, times, over, size, natural_of}
 use Rattle.ps_subset.specs.Token.{Body}
-use Rattle.ps_subset.specs.State.{Object, Number, Truth, Text, Procedure, Array, Cell, Elements, Frame, Character, Machine, Event, Mask, Outcome, go_on, same_objects}
+use Rattle.ps_subset.specs.State.{Object, Number, Truth, Text, Procedure, Array, Cell, Elements, Frame, Character, Machine, Event, Mask, Outcome, failed, go_on, same_objects}
 
 -- imagemask. Whether a row of w samples has a sample 1: the bits of a byte count from the highest, and those past the row's end count for
 -- nothing.
@@ -30,9 +30,9 @@ mask_at by f tx ty w h rows =
 abbrev pub painted : List Object → List Object → Fraction → Fraction → ℕ → ℕ → Machine → Outcome
 painted (Text rows ∷ below) rest tx ty w h m =
     if nat_eq (length rows) (h * row_bytes w) && same_objects below rest
-    then Some (record m { operands = below }, mask_events (rows_mark w h rows) (mask_at m.showing m.graphics.frame tx ty w h rows))
-    else None
-painted _ rest tx ty w h m = None
+    then (Some (record m { operands = below }), mask_events (rows_mark w h rows) (mask_at m.showing m.graphics.frame tx ty w h rows))
+    else failed
+painted _ rest tx ty w h m = failed
 
 abbrev pub is_number : ℕ → Option ℕ → Bool
 is_number n (Some m) = nat_eq n m
@@ -52,11 +52,11 @@ abbrev pub mask_by : (Body → Machine → Outcome) → Body → Option (Fractio
 mask_by beside procedure (Some (tx, ty)) (Some (suc w)) (Some (suc h)) rest m =
     if nat_le (suc h * row_bytes (suc w)) 16777216
     then go_on (beside procedure (record m { operands = rest })) (λ n. painted n.operands rest tx ty (suc w) (suc h) n)
-    else None
-mask_by beside procedure _ _ _ rest m = None
+    else failed
+mask_by beside procedure _ _ _ rest m = failed
 
 -- The matrix and the sizes are judged before the procedure runs; the place and the size of a sample are those after it.
 abbrev pub imagemask_effect : (Body → Machine → Outcome) → List Object → Machine → Outcome
 imagemask_effect beside (Procedure procedure ∷ Array a ∷ Truth ∷ h ∷ w ∷ rest) m =
     mask_by beside procedure (shift_of (slice_get m.store a)) (count_of w) (count_of h) rest m
-imagemask_effect beside _ m = None
+imagemask_effect beside _ m = failed

@@ -2,7 +2,7 @@
 -- arrays are places of a store; a save keeps a copy of it.
 use Rattle.std.specs.Prelude.{ℕ, suc, ◌+◌, ◌-◌, List, [], ◌∷◌, ◌++◌, Option, Some, None, Bool, true, false, if◌then◌else◌, ◌&&◌, ◌||◌, nat_eq, nat_lt, nat_le, length, slice_get, slice_set, option_and_then, reverse}
 use Rattle.ps_subset.specs.Fraction.{natural_of}
-use Rattle.ps_subset.specs.State.{Object, Number, Literal, Array, Dictionary, Mark, Save, Cell, Elements, Entries, Copy, Machine, Event, PutArray, Outcome, entry, with_entry, entries_of, elements_of, push}
+use Rattle.ps_subset.specs.State.{Object, Number, Literal, Array, Dictionary, Mark, Save, Cell, Elements, Entries, Copy, Machine, Event, PutArray, Outcome, failed, entry, with_entry, entries_of, elements_of, push}
 
 -- Dictionaries. def takes a value and a literal name into the dictionary on top, which has the key or room.
 abbrev pub holds_key : Option Object → Bool
@@ -97,16 +97,16 @@ put_events _ i = []
 
 abbrev pub put_at : Option Cell → ℕ → ℕ → Object → List Object → Machine → Outcome
 put_at (Some (Elements xs)) a i x rest m =
-    if nat_lt i (length xs) then Some (record m { operands = rest; store = slice_set m.store a (Elements (slice_set xs i x)) }, put_events x i) else None
-put_at _ a i x rest m = None
+    if nat_lt i (length xs) then (Some (record m { operands = rest; store = slice_set m.store a (Elements (slice_set xs i x)) }), put_events x i) else failed
+put_at _ a i x rest m = failed
 
 abbrev pub put_by : Option ℕ → ℕ → Object → List Object → Machine → Outcome
 put_by (Some i) a x rest m = put_at (slice_get m.store a) a i x rest m
-put_by None a x rest m = None
+put_by None a x rest m = failed
 
 abbrev pub put_effect : List Object → Machine → Outcome
 put_effect (x ∷ Number i ∷ Array a ∷ rest) m = put_by (natural_of i) a x rest m
-put_effect _ m = None
+put_effect _ m = failed
 
 abbrev pub got : Option Object → List Object → Machine → Option Machine
 got (Some x) rest m = Some (record m { operands = x ∷ rest })
