@@ -81,7 +81,7 @@ new_array_goes {levels} {nest} {m = m} k store cells n a {rest} is at few h =
     (array_goes k n few h)
 
 -- FB: a font's dictionary and its empty array of glyphs are made, and the dictionary is begun and left.
-pub FB_goes : {levels nest matrix fm fx en : ℕ} {m : Machine} (k : HasProlog matrix m.store m.dictionaries) → HasFontArrays fm fx en m.store m.dictionaries → all_below (length m.store) m.dictionaries ≡ true → length m.dictionaries < 19 → length m.operands + 4 ≤ 500 →
+pub FB_goes : {levels nest matrix fm fx en : ℕ} {m : Machine} (k : HasProlog matrix m.store m.dictionaries) → HasFontArrays fm fx en m.store m.dictionaries → all_below (length m.store) m.dictionaries ≡ true → length m.dictionaries < 19 → length m.operands + 3 ≤ 500 →
     Meets (suc (suc levels)) nest (token.Name (codes "FB")) m (record m { operands = Dictionary (length m.store) ∷ m.operands; dictionaries = length m.store ∷ m.dictionaries; store = m.store ++ font_cells fm fx en (suc (length m.store)) }) []
 unfolding entry with_entry
 FB_goes {matrix = matrix} {fm} {fx} {en} {m} k a old few room =
@@ -144,7 +144,7 @@ D_goes {glyphs = glyphs} {rest = rest} code k h table is less room =
     ▸ done)
 
 -- E: the dictionary on top is ended, becomes the font of its key, and stands for the key in the dictionary that is on top then.
-pub E_goes : {levels nest matrix f d room' : ℕ} {below : List ℕ} {es' : List Entry} {m : Machine} {room : ℕ} {es : List Entry} {key : List ℕ} {rest : List Object} (k : HasProlog matrix m.store m.dictionaries) → HasProlog matrix m.store (d ∷ below) → m.dictionaries ≡ f ∷ d ∷ below → m.operands ≡ Dictionary f ∷ Literal key ∷ rest → slice_get m.store f ≡ Some (Entries room es) → TakesKey (codes "FID") room es → slice_get m.store d ≡ Some (Entries room' es') → (f ≡ d → ⊥) → TakesKey key room' es' → length m.operands + 2 ≤ 500 →
+pub E_goes : {levels nest matrix f d room' : ℕ} {below : List ℕ} {es' : List Entry} {m : Machine} {room : ℕ} {es : List Entry} {key : List ℕ} {rest : List Object} (k : HasProlog matrix m.store m.dictionaries) → HasProlog matrix m.store (d ∷ below) → m.dictionaries ≡ f ∷ d ∷ below → m.operands ≡ Dictionary f ∷ Literal key ∷ rest → slice_get m.store f ≡ Some (Entries room es) → TakesKey (codes "FID") room es → slice_get m.store d ≡ Some (Entries room' es') → (f ≡ d → ⊥) → TakesKey key room' es' → length m.operands + 1 ≤ 500 →
     Meets (suc (suc levels)) nest (token.Name (codes "E")) m
     (record m { operands = rest; dictionaries = d ∷ below; store = put_entry (put_entry m.store f room es (codes "FID") (Literal key)) d room' es' key (Dictionary f); fonts = with_font key f m.fonts }) (FontMade key ∷ [])
 unfolding entry

@@ -14,7 +14,7 @@ use Rattle.ps_subset.specs.Prolog.{line}
 use Rattle.ps_subset.specs.Job.{IsInRange}
 use Rattle.ps_subset.specs.Leads.{Goes}
 use Rattle.ps_subset.specs.Conditions.{HasProlog, OnTop, TakesKey, put_entry, font_matrix_cell}
-use Rattle.ps_subset.specs.Fonts.{Letter, Font, font_name, IsGoodGlyph, letter_codes, AllBytes}
+use Rattle.ps_subset.specs.Fonts.{printed, Letter, Font, font_name, IsGoodGlyph, letter_codes, AllBytes}
 use Rattle.ps_subset.specs.FontConditions.{glyph_elements, shift_cell, IsFont, HoldsLetter, AllHeld, HasFontArrays, font_entries}
 use Rattle.ps_subset.specs.FontText.{letter_line, letter_lines, font_lines, letters_events, letters_held, AllGoodLetters}
 use Rattle.ps_subset.proofs.Dictionaries.{slice_get-set_same, slice_get-set_other}
@@ -32,7 +32,7 @@ use Rattle.ps_subset.proofs.Runs.{Runs, Runs-append, nothing_runs}
 -- the tokens of a glyph's line
 abbrev letter_tokens : Letter → List Token
 letter_tokens l =
-    let g = l.glyph in
+    let g = printed l.glyph in
     token.Number (pos l.code) ∷ token.Name (codes "[") ∷ token.Number (pos g.columns) ∷ token.Number (pos g.rows) ∷ token.Name (codes "true") ∷ token.Name (codes "[") ∷
     token.Number (pos 1) ∷ token.Number (pos 0) ∷ token.Number (pos 0) ∷ token.Number (pos 1) ∷ token.Number g.hoff ∷ token.Number g.voff ∷ token.Name (codes "]") ∷
     token.Procedure (body_of (token.Text g.bytes ∷ [])) ∷ token.Number g.width ∷ token.Number (pos 0) ∷
@@ -52,9 +52,9 @@ negative_range z h = omega (arith, ints)
 box_range : (n : ℕ) (z : ℤ) → n < 2 ^ 32 → nat_abs z < 2 ^ 32 → IsInRange (pos n -ℤ z)
 box_range n z hn hz = omega (arith, ints)
 
-letter_reads : (l : Letter) → l.code < 256 → IsGoodGlyph l.glyph → Reads (letter_line l) (letter_tokens l)
+letter_reads : (l : Letter) → l.code < 256 → IsGoodGlyph (printed l.glyph) → Reads (letter_line l) (letter_tokens l)
 letter_reads l few good =
-    let g = l.glyph in
+    let g = printed l.glyph in
     Reads-append (opened_reads l.code (omega arith))
     (Reads-append (number_reads g.columns (omega (arith, good.columns)))
     (Reads-append (number_reads g.rows (omega (arith, good.rows)))
@@ -72,9 +72,9 @@ letter_reads l few good =
 -- a glyph's line, where GA stands for an array of the store
 letter_goes : {levels nest matrix glyphs : ℕ} {m : Machine} {xs : List Object} (l : Letter) (k : HasProlog matrix m.store m.dictionaries) → all_below (length m.store) m.dictionaries ≡ true → meaning_in m.store m.dictionaries (codes "GA") ≡ Value (Array glyphs) → slice_get m.store glyphs ≡ Some (Elements xs) → l.code < length xs → length m.operands + 20 ≤ 500 →
     Goes (suc levels) nest (letter_tokens l) m
-    (record m { store = slice_set ((m.store ++ shift_cell l.glyph ∷ []) ++ Elements (glyph_elements l.glyph (length m.store)) ∷ []) glyphs (Elements (slice_set xs l.code (Array (length (m.store ++ shift_cell l.glyph ∷ []))))) }) (PutArray l.code ∷ [])
+    (record m { store = slice_set ((m.store ++ shift_cell (printed l.glyph) ∷ []) ++ Elements (glyph_elements (printed l.glyph) (length m.store)) ∷ []) glyphs (Elements (slice_set xs l.code (Array (length (m.store ++ shift_cell (printed l.glyph) ∷ []))))) }) (PutArray l.code ∷ [])
 letter_goes {matrix = matrix} {glyphs} {m} {xs} l k old table is less room =
-    let g = l.glyph in
+    let g = printed l.glyph in
     let s1 = m.store ++ shift_cell g ∷ [] in
     let c2 = Elements (glyph_elements g (length m.store)) in
     let n1 = length-append m.store (shift_cell g ∷ []) in
@@ -115,7 +115,7 @@ filled a xs (l ∷ ls) = filled (a + 2) (slice_set xs l.code (Array (a + 1))) ls
 
 abbrev pub letter_cells : ℕ → List Letter → List Cell
 letter_cells a [] = []
-letter_cells a (l ∷ ls) = shift_cell l.glyph ∷ Elements (glyph_elements l.glyph a) ∷ letter_cells (a + 2) ls
+letter_cells a (l ∷ ls) = shift_cell (printed l.glyph) ∷ Elements (glyph_elements (printed l.glyph) a) ∷ letter_cells (a + 2) ls
 
 -- the state while a font is made in a store
 abbrev pub making : Machine → List ℕ → List Entry → List Object → List Cell → Machine
@@ -135,12 +135,12 @@ grows s cells e c1 c2 xs ys =
     slice_set-next s e (Elements xs) (Elements ys) (cells ++ c1 ∷ c2 ∷ [])
 
 module _ (matrix fm fx en : ℕ) (m : Machine) (key : List ℕ) (k : HasProlog matrix m.store m.dictionaries) (old : all_below (length m.store) m.dictionaries ≡ true) (room : length m.operands + 30 ≤ 500) where
-  letter_runs : (l : Letter) (xs : List Object) (cells : List Cell) (a : ℕ) → length (m.store ++ Entries 8 (font_entries fm fx en (suc (length m.store))) ∷ Elements xs ∷ cells) ≡ a → l.code < 256 → l.code < length xs → IsGoodGlyph l.glyph →
-      Runs (letter_line l) (making m key (font_entries fm fx en (suc (length m.store))) xs cells) (making m key (font_entries fm fx en (suc (length m.store))) (slice_set xs l.code (Array (a + 1))) (cells ++ shift_cell l.glyph ∷ Elements (glyph_elements l.glyph a) ∷ [])) (PutArray l.code ∷ [])
+  letter_runs : (l : Letter) (xs : List Object) (cells : List Cell) (a : ℕ) → length (m.store ++ Entries 8 (font_entries fm fx en (suc (length m.store))) ∷ Elements xs ∷ cells) ≡ a → l.code < 256 → l.code < length xs → IsGoodGlyph (printed l.glyph) →
+      Runs (letter_line l) (making m key (font_entries fm fx en (suc (length m.store))) xs cells) (making m key (font_entries fm fx en (suc (length m.store))) (slice_set xs l.code (Array (a + 1))) (cells ++ shift_cell (printed l.glyph) ∷ Elements (glyph_elements (printed l.glyph) a) ∷ [])) (PutArray l.code ∷ [])
   unfolding entry
   letter_runs l xs cells a is few less good =
       let s = m.store in
-      let g = l.glyph in
+      let g = printed l.glyph in
       let es = font_entries fm fx en (suc (length m.store)) in
       let before = making m key es xs cells in
       let here = before.store in
@@ -169,8 +169,8 @@ module _ (matrix fm fx en : ℕ) (m : Machine) (key : List ℕ) (k : HasProlog m
   letters_run (l ∷ ls) least xs cells a is long all =
       let s = m.store in
       let e = Entries 8 (font_entries fm fx en (suc (length m.store))) in
-      let c1 = shift_cell l.glyph in
-      let c2 = Elements (glyph_elements l.glyph a) in
+      let c1 = shift_cell (printed l.glyph) in
+      let c2 = Elements (glyph_elements (printed l.glyph) a) in
       let ys = slice_set xs l.code (Array (a + 1)) in
       let first = letter_runs l xs cells a is all.1 (omega (arith, all.1, long)) all.2 in
       let n = length-append s (e ∷ Elements xs ∷ cells) in
@@ -215,8 +215,8 @@ letters_stand (l ∷ ls) least a glyphs xs table store all long is same cells =
       matrix = a;
       table_is = is;
       at = same l.code all.0 ∙ kept ∙ slice_get-set_same xs l.code was.0 (Array (a + 1)) was.1;
-      is = cells.by 1 (Elements (glyph_elements l.glyph a)) refl;
-      matrix_is = (let e : a + 0 ≡ a = omega arith in subst (λ n. slice_get store n ≡ Some (shift_cell l.glyph)) e (cells.by 0 (shift_cell l.glyph) refl));
+      is = cells.by 1 (Elements (glyph_elements (printed l.glyph) a)) refl;
+      matrix_is = (let e : a + 0 ≡ a = omega arith in subst (λ n. slice_get store n ≡ Some (shift_cell (printed l.glyph))) e (cells.by 0 (shift_cell (printed l.glyph)) refl));
     } in
     let later : HasCells (a + 2) (letter_cells (a + 2) ls) store = record {
       by = λ i c h. (let e : a + suc (suc i) ≡ a + 2 + i = omega arith in subst (λ n. slice_get store n ≡ Some c) e (cells.by (suc (suc i)) c h));

@@ -4,7 +4,7 @@ use Rattle.std.specs.Prelude.{codes, ℤ, ◌+ℤ◌, ◌&&◌, nat_eq, nat_lt, 
 use Rattle.std.proofs.lemmas.List.{length-append}
 use Rattle.std.proofs.lemmas.Bool.Decides.{nat_tests}
 use Rattle.ps_subset.specs.Fraction.{same_ℤ}
-use Rattle.ps_subset.specs.State.{Event, Note, Block, PutArray, FontMade, Shown}
+use Rattle.ps_subset.specs.State.{Event, Note, Block, PutArray, FontMade, Shown, in_order}
 use Rattle.ps_subset.specs.Run.{events}
 use Rattle.ps_subset.specs.Job.{Job}
 use Rattle.ps_subset.specs.Lines.{comment_events, head_events}
@@ -51,7 +51,7 @@ pages_kept comments copies j fonts [] = refl
 pages_kept comments copies j fonts (p ∷ ps) =
     texts_kept-append (printout.page_events comments copies j fonts (page_of p)) _
     (texts_kept-append (comment_events comments (page_comment (page_of p))) _ (comment_kept comments (page_comment (page_of p)))
-    (texts_kept-append (items_events j (grouped None p.marks)) (Shown copies (fonts_held fonts) ∷ []) (items_of_marks j p.marks) refl))
+    (texts_kept-append (items_events j (grouped None p.marks)) (Shown copies (in_order (fonts_held fonts)) ∷ []) (items_of_marks j p.marks) refl))
     (pages_kept comments copies j fonts ps)
 
 sections_kept : (comments : Bool) (copies : ℕ) (j : Job) (ss : List Section) → without_texts (printout.sections_events comments copies j (sections_of ss)) ≡ sections_owed comments copies j ss

@@ -1,6 +1,6 @@
 -- What holds between the lines of a section, and what keeps it: a further key, more cells.
 use Rattle.std.proofs.Common.{◌≡◌, refl, ap, ◌∙◌, ℕ, suc, ◌+◌, ◌<◌, ◌≤◌, ◌^◌, List, [], ◌∷◌, ◌++◌, length, Some, None, arith, Bool, true, false}
-use Rattle.std.specs.Prelude.{codes, pos, decimal, nat_eq, slice_get, bytes_eq, ◌-◌}
+use Rattle.std.specs.Prelude.{codes, pos, decimal, nat_eq, slice_get, bytes_eq}
 use Rattle.std.specs.Char.{is_ascii_digit}
 use Rattle.std.specs.Str.{all_ascii_digits}
 use Rattle.std.proofs.Math.ListN.{length-set}
@@ -21,8 +21,6 @@ use Rattle.ps_subset.proofs.Stores.{slice_get-grown, slice_get-some, Keeps-grown
 use Rattle.ps_subset.proofs.Numbers.{own, first_digit}
 use Rattle.ps_subset.proofs.FontWords.{decimal_same}
 use Rattle.ps_subset.proofs.Stands.{Placed, directory, AllStand, NoFont, AllStand-put}
-use Rattle.ps_subset.proofs.FontLines.{codes_fit}
-use Rattle.ps_subset.specs.Token as token
 
 -- A key that is none of those that a section rests on.
 pub record IsOther (key : List ℕ) : Type 0 where

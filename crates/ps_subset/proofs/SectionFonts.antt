@@ -1,6 +1,6 @@
 -- The fonts of a section are made, one after another.
 use Rattle.std.proofs.Common.{◌≡◌, refl, ap, sym, ◌∙◌, subst, ℕ, suc, ◌+◌, ◌<◌, ◌≤◌, ◌^◌, List, [], ◌∷◌, ◌++◌, length, Some, arith, false, append_assoc}
-use Rattle.std.specs.Prelude.{codes, slice_get, bytes_eq, ◌-◌}
+use Rattle.std.specs.Prelude.{codes, slice_get, bytes_eq}
 use Rattle.std.proofs.Math.ListN.{length-set}
 use Rattle.std.proofs.lemmas.List.{append-nil}
 use Rattle.ps_subset.specs.State.{Dictionary, Entry, Cell, Entries, Elements, Machine, FontMade, with_entry}
@@ -18,7 +18,6 @@ use Rattle.ps_subset.proofs.Runs.{Runs, Runs-append, nothing_runs}
 use Rattle.ps_subset.proofs.Stands.{Placed, fonts_of, directory, Stands, AllStand, NoFont}
 use Rattle.ps_subset.proofs.FontLines.{made_cells, made_table, made_is, made_table_is, made_held, made_glyphs, codes_fit, font_runs}
 use Rattle.ps_subset.proofs.Ready.{IsReady-put, IsReady-grown, font_other, fonts_apart, IsReady}
-use Rattle.ps_subset.specs.Token as token
 
 -- The numbers of the fonts that are there are below a limit.
 abbrev AllBelow : ℕ → List Placed → Type 0

@@ -3,7 +3,7 @@ use Rattle.std.proofs.Common.{◌≡◌, refl, ap, sym, ◌∙◌, subst, ℕ, z
 use Rattle.std.specs.Prelude.{codes, pos, slice_get, slice_set, bytes_eq, ◌-◌, if◌then◌else◌}
 use Rattle.std.proofs.lemmas.List.{append-nil}
 use Rattle.ps_subset.specs.Fraction.{whole, negative, over, is_zero}
-use Rattle.ps_subset.specs.State.{Object, Number, Save, Entry, Cell, Entries, Machine, Shown, entry, with_entry, held_glyphs}
+use Rattle.ps_subset.specs.State.{Object, Number, Save, Entry, Cell, Entries, Machine, Shown, entry, with_entry, held_glyphs, in_order}
 use Rattle.ps_subset.specs.GraphicsEffects.{point, first_frame}
 use Rattle.ps_subset.specs.Prolog.{line}
 use Rattle.ps_subset.specs.Job.{Job, IsGoodJob, points, per_pixel}
@@ -24,7 +24,7 @@ use Rattle.ps_subset.proofs.Comments.{comment_runs, page_note}
 use Rattle.ps_subset.proofs.Stands.{Placed, fonts_of, directory, NoFont, held_is}
 use Rattle.ps_subset.proofs.PageItems.{OnSheet, at_pen, items_run}
 use Rattle.ps_subset.proofs.Ways.{delta_free}
-use Rattle.ps_subset.proofs.Ready.{IsReady-put, IsReady-grown, SI_other, SS_other, IsReady}
+use Rattle.ps_subset.proofs.Ready.{IsReady-put, SI_other, SS_other, IsReady}
 use Rattle.ps_subset.proofs.SectionFonts.{fonts_run}
 use Rattle.ps_subset.specs.Token as token
 
@@ -73,7 +73,7 @@ module _ (j : Job) (good : IsGoodJob j) where
   module _ (copies : ℕ) (few : suc copies < 65536) {matrix fm fx en d : ℕ} {below : List ℕ} {room : ℕ} {es : List Entry} {ps : List Placed} where
     -- a page, without its comment, leads back to where it began
     page_body : {saves keys : ℕ} (m : Machine) (p : Page) → IsGoodPage (fonts_of ps) p → IsReady j (suc copies) (suc saves) (suc keys) matrix fm fx en d below room es ps m →
-        Runs (line (codes "bop") ++ (lines_from first_pen p.items ++ line (codes "eop"))) m (fresh m (suc m.saves_made)) (items_events j p.items ++ Shown (suc copies) (fonts_held (fonts_of ps)) ∷ [])
+        Runs (line (codes "bop") ++ (lines_from first_pen p.items ++ line (codes "eop"))) m (fresh m (suc m.saves_made)) (items_events j p.items ++ Shown (suc copies) (in_order (fonts_held (fonts_of ps))) ∷ [])
     page_body m p fine r =
         let si = Save m.saves_made in
         let apart = no_key_is_font (codes "SI") ps (λ id. refl) in
@@ -106,13 +106,13 @@ module _ (j : Job) (good : IsGoodJob j) where
         let delta = Number (whole (items.0).delta) in
         let knows = HasProlog-put b.store d room es1 (codes "delta") delta r1.top.stands m.dictionaries delta_free r1.knows in
         let si_stands = meaning_kept b.store d room es1 (codes "delta") delta r1.top.stands (codes "SI") m.dictionaries refl ∙ put_stands (codes "SI") si r.top in
-        let eop : Runs (line (codes "eop")) last (fresh m (suc m.saves_made)) (Shown (suc copies) (held_glyphs m.fonts m.store) ∷ []) = record {
+        let eop : Runs (line (codes "eop")) last (fresh m (suc m.saves_made)) (Shown (suc copies) (in_order (held_glyphs m.fonts m.store)) ∷ []) = record {
           tokens = token.Name (codes "eop") ∷ [];
           reads = eop_reads;
           goes = eop_goes {id = m.saves_made} {c = copy m} {cs = m.saves} knows si_stands (rw (same_number m.saves_made)) r.old_operands r.old_dictionaries r.knows r.copies_are few (omega (arith, r.operands_room)) ▸ done;
         } in
-        let held = ap (λ fs. held_glyphs fs m.store) r.fonts ∙ held_is d m.store m.dictionaries ps r.stand in
-        let shown : Runs (line (codes "eop")) last (fresh m (suc m.saves_made)) (Shown (suc copies) (fonts_held (fonts_of ps)) ∷ []) =
+        let held = ap (λ fs. in_order (held_glyphs fs m.store)) r.fonts ∙ ap in_order (held_is d m.store m.dictionaries ps r.stand) in
+        let shown : Runs (line (codes "eop")) last (fresh m (suc m.saves_made)) (Shown (suc copies) (in_order (fonts_held (fonts_of ps))) ∷ []) =
         subst (λ h. Runs (line (codes "eop")) last (fresh m (suc m.saves_made)) (Shown (suc copies) h ∷ [])) held eop in
         Runs-append bop (Runs-append items.1 shown)
 

@@ -12,6 +12,7 @@ use Rattle.ps_subset.specs.Operators.{Operator}
 use Rattle.ps_subset.specs.Run.{meaning_in, start, nests, Value, Operation, Named, table, operator_in}
 use Rattle.ps_subset.specs.Job.{Job, IsGoodJob, points}
 use Rattle.ps_subset.specs.Lines.{setup_lines}
+use Rattle.ps_subset.specs.FontConditions.{HasFontArrays}
 use Rattle.ps_subset.specs.Leads.{Goes}
 use Rattle.ps_subset.specs.Conditions.{HasProlog, OnTop, JobStands, number, names, prolog_entries, prolog_cells, prolog_state}
 use Rattle.ps_subset.proofs.Open.{machine_open}
@@ -133,6 +134,18 @@ prolog_knows =
       matrix_stands = refl;
       matrix_is = refl;
     }
+
+pub prolog_dictionary : meaning_in prolog_state.store prolog_state.dictionaries (codes "TeXDict") ≡ Value (Dictionary 1)
+unfolding machine_open
+prolog_dictionary = refl
+
+pub prolog_arrays : HasFontArrays 3 4 5 prolog_state.store (1 ∷ 0 ∷ [])
+unfolding machine_open
+prolog_arrays = record { FM_stands = refl; FX_stands = refl; EN_stands = refl; FM_is = refl }
+
+pub prolog_delta : meaning_in prolog_state.store (1 ∷ 0 ∷ []) (codes "delta") ≡ Value (number 0)
+unfolding machine_open
+prolog_delta = refl
 
 module _ (copies : ℕ) (j : Job) where
   pub setup_knows : HasProlog 2 (setup_state copies j).store (1 ∷ 0 ∷ [])

@@ -5,14 +5,12 @@ use Rattle.std.proofs.lemmas.Bool.Decides.{nat_tests}
 use Rattle.ps_subset.specs.State.{Object, Dictionary, Entry, Cell, Entries, Elements, FontEntry, with_entry, glyphs_from, held_glyphs}
 use Rattle.ps_subset.specs.Run.{Value, meaning_in}
 use Rattle.ps_subset.specs.Conditions.{put_entry}
-use Rattle.ps_subset.specs.Fonts.{Letter, Font, font_name, IsGoodGlyph, AllBytes, letter_codes}
+use Rattle.ps_subset.specs.Fonts.{printed, Letter, Font, font_name, IsGoodGlyph, AllBytes, letter_codes}
 use Rattle.ps_subset.specs.FontConditions.{IsFont, HoldsLetter, AllHeld}
 use Rattle.ps_subset.specs.FontText.{letters_held, fonts_held}
 use Rattle.ps_subset.specs.Items.{IsIn, AllIn, font_in}
 use Rattle.ps_subset.proofs.Dictionaries.{meaning_kept}
 use Rattle.ps_subset.proofs.Stores.{Onward, Onward-set, AllHeld-onward, IsFont-onward, array_apart}
-use Rattle.ps_subset.specs.Token as token
-use Rattle.ps_subset.specs.State as state
 
 -- a font of a section, and where its dictionary is
 pub record Placed : Type 0 where
@@ -100,10 +98,10 @@ stands_of {d} {store} {ds} (q ∷ ps) id p h all = go (nat_eq q.font.id id) h (�
     go false k ih = ih k
 
 -- letters of a font that is held
-pub held_in : (glyphs : ℕ) (store : List Cell) (l : Letter) (xs : List Letter) → IsIn l xs → AllHeld glyphs xs store → HoldsLetter glyphs l store × IsGoodGlyph l.glyph
+pub held_in : (glyphs : ℕ) (store : List Cell) (l : Letter) (xs : List Letter) → IsIn l xs → AllHeld glyphs xs store → HoldsLetter glyphs l store × IsGoodGlyph (printed l.glyph)
 held_in glyphs store l [] i all = absurd i
 held_in glyphs store l (x ∷ xs) i all =
-    ⊎_elim (λ e. subst (λ z. HoldsLetter glyphs z store × IsGoodGlyph z.glyph) e (all.0, all.1)) (λ k. held_in glyphs store l xs k all.2) i
+    ⊎_elim (λ e. subst (λ z. HoldsLetter glyphs z store × IsGoodGlyph (printed z.glyph)) e (all.0, all.1)) (λ k. held_in glyphs store l xs k all.2) i
 
 pub all_held_in : (glyphs : ℕ) (store : List Cell) (ls xs : List Letter) → AllIn ls xs → AllHeld glyphs xs store → AllHeld glyphs ls store
 all_held_in glyphs store [] xs i all = tt

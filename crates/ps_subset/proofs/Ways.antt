@@ -31,7 +31,7 @@ unfolding entry
 delta_free = record { no_name = refl; no_operator = refl; no_truth = refl; no_matrix = refl }
 
 module _ (j : Job) (good : IsGoodJob j) {matrix : ℕ} where
-  pub tail_pixel : {levels nest : ℕ} {m : Machine} {d room : ℕ} {below : List ℕ} {es : List Entry} {rest : List Object} (k : HasProlog matrix m.store m.dictionaries) → OnTop d below room es m.store m.dictionaries → TakesKey (codes "delta") room es → m.graphics.frame ≡ job_frame j → (x y n : ℤ) → m.operands ≡ Number (whole n) ∷ rest → m.graphics.place ≡ Some (pixel_place j x y) → length rest + 5 ≤ 500 →
+  pub tail_pixel : {levels nest : ℕ} {m : Machine} {d room : ℕ} {below : List ℕ} {es : List Entry} {rest : List Object} (k : HasProlog matrix m.store m.dictionaries) → OnTop d below room es m.store m.dictionaries → TakesKey (codes "delta") room es → m.graphics.frame ≡ job_frame j → (x y n : ℤ) → m.operands ≡ Number (whole n) ∷ rest → m.graphics.place ≡ Some (pixel_place j x y) → length rest + 3 ≤ 500 →
       Meets (suc (suc (suc levels))) nest (token.Name (codes "tail")) m (gone j m d room es rest n (x +ℤ n) y) []
   unfolding entry
   tail_pixel {m = m} {d} {room} {es = es} k w fits frame x y n h here long =
@@ -45,7 +45,7 @@ module _ (j : Job) (good : IsGoodJob j) {matrix : ℕ} where
       ▸ rmoveto_pixel j good k' frame x y n (ap (λ r. number 0 ∷ r) h) here
       ▸ done)
 
-  module _ {levels nest f glyphs : ℕ} {m : Machine} {key : List ℕ} {rest : List Object} (k : HasProlog matrix m.store m.dictionaries) (font : IsFont key f glyphs m.store) (ls : List Letter) (all : AllHeld glyphs ls m.store) (frame : m.graphics.frame ≡ job_frame j) (set : m.graphics.font ≡ Some f) (x y : ℤ) (here : m.graphics.place ≡ Some (pixel_place j x y)) (long : length rest + 24 ≤ 500) (pushable : length m.pushed < 31) where
+  module _ {levels nest f glyphs : ℕ} {m : Machine} {key : List ℕ} {rest : List Object} (k : HasProlog matrix m.store m.dictionaries) (font : IsFont key f glyphs m.store) (ls : List Letter) (all : AllHeld glyphs ls m.store) (frame : m.graphics.frame ≡ job_frame j) (set : m.graphics.font ≡ Some f) (x y : ℤ) (here : m.graphics.place ≡ Some (pixel_place j x y)) (long : length rest + 14 ≤ 500) (pushable : length m.pushed < 31) where
     -- a short way
     pub short_pixel : (n : ℤ) (short : List ℕ) → entry short names ≡ Some (procedure (name (codes "p") ∷ token.Number n ∷ name (codes "w") ∷ [])) → m.operands ≡ Text (letter_codes ls) ∷ rest →
         Meets (suc (suc (suc (suc (suc levels))))) nest (token.Name short) m (at_place (pixel_place j (string_end x ls +ℤ n) y) rest m) (shown_events j key x y ls ++ [])
@@ -98,7 +98,7 @@ module _ (j : Job) (good : IsGoodJob j) {matrix : ℕ} where
           ▸ tail_pixel k w fits frame (string_end x ls) y (n +ℤ delta) (λ i. Number (plus-whole n delta i) ∷ rest) refl (omega arith)
           ▸ done)
 
-  pub near_pixel : {levels nest d room f glyphs : ℕ} {below : List ℕ} {es : List Entry} {m : Machine} {key : List ℕ} {rest : List Object} (k : HasProlog matrix m.store m.dictionaries) (font : IsFont key f glyphs m.store) (ls : List Letter) (all : AllHeld glyphs ls m.store) (frame : m.graphics.frame ≡ job_frame j) (set : m.graphics.font ≡ Some f) (x y : ℤ) (here : m.graphics.place ≡ Some (pixel_place j x y)) (long : length rest + 24 ≤ 500) (pushable : length m.pushed < 31) (w : OnTop d below room es m.store m.dictionaries) (fits : TakesKey (codes "delta") room es)
+  pub near_pixel : {levels nest d room f glyphs : ℕ} {below : List ℕ} {es : List Entry} {m : Machine} {key : List ℕ} {rest : List Object} (k : HasProlog matrix m.store m.dictionaries) (font : IsFont key f glyphs m.store) (ls : List Letter) (all : AllHeld glyphs ls m.store) (frame : m.graphics.frame ≡ job_frame j) (set : m.graphics.font ≡ Some f) (x y : ℤ) (here : m.graphics.place ≡ Some (pixel_place j x y)) (long : length rest + 14 ≤ 500) (pushable : length m.pushed < 31) (w : OnTop d below room es m.store m.dictionaries) (fits : TakesKey (codes "delta") room es)
       (n delta : ℤ) (near : List ℕ) → entry near names ≡ Some (procedure (token.Number n ∷ name (codes "M") ∷ [])) → m.operands ≡ Text (letter_codes ls) ∷ rest → meaning_in m.store m.dictionaries (codes "delta") ≡ Value (Number (whole delta)) →
       Meets (suc (suc (suc (suc (suc (suc levels)))))) nest (token.Name near) m (gone j m d room es rest (n +ℤ delta) (string_end x ls +ℤ (n +ℤ delta)) y) (shown_events j key x y ls ++ [])
   near_pixel k font ls all frame set x y here long pushable w fits n delta near is h stands =

@@ -1,5 +1,5 @@
 -- Blocks: bytes that the machine passes over unread. A comment announces them by their number, and a line end follows them.
-use Rattle.std.specs.Prelude.{ℕ, ◌+◌, ◌%◌, ◌<◌, ◌^◌, List, [], ◌∷◌, ◌++◌, length, codes, decimal}
+use Rattle.std.specs.Prelude.{ℕ, ◌<◌, ◌^◌, List, [], ◌∷◌, ◌++◌, length, codes, decimal}
 use Rattle.ps_subset.specs.State.{Event}
 use Rattle.ps_subset.specs.Prolog.{line}
 use Rattle.ps_subset.specs.State as state

@@ -4,7 +4,7 @@ use Rattle.ps_subset.specs.Fraction.{whole}
 use Rattle.ps_subset.specs.State.{Object, Number, Truth, Literal, Array, Null, Entry, Cell, Elements, Entries, entry}
 use Rattle.ps_subset.specs.Run.{Value, meaning_in}
 use Rattle.ps_subset.specs.Conditions.{number, name, procedure, font_matrix_cell}
-use Rattle.ps_subset.specs.Fonts.{Glyph, Letter, IsGoodGlyph}
+use Rattle.ps_subset.specs.Fonts.{printed, Glyph, Letter, IsGoodGlyph}
 use Rattle.ps_subset.specs.Token as token
 
 -- what stands between the brackets of a glyph's line, where its matrix is the array at a given place
@@ -36,12 +36,12 @@ pub record HoldsLetter (glyphs : ℕ) (l : Letter) (store : List Cell) : Type 0 
   pub matrix : ℕ
   pub table_is : slice_get store glyphs ≡ Some (Elements table)
   pub at : slice_get table l.code ≡ Some (Array place)
-  pub is : slice_get store place ≡ Some (Elements (glyph_elements l.glyph matrix))
-  pub matrix_is : slice_get store matrix ≡ Some (shift_cell l.glyph)
+  pub is : slice_get store place ≡ Some (Elements (glyph_elements (printed l.glyph) matrix))
+  pub matrix_is : slice_get store matrix ≡ Some (shift_cell (printed l.glyph))
 
 abbrev pub AllHeld : ℕ → List Letter → List Cell → Type 0
 AllHeld glyphs [] store = Unit {0}
-AllHeld glyphs (l ∷ ls) store = HoldsLetter glyphs l store × IsGoodGlyph l.glyph × AllHeld glyphs ls store
+AllHeld glyphs (l ∷ ls) store = HoldsLetter glyphs l store × IsGoodGlyph (printed l.glyph) × AllHeld glyphs ls store
 
 -- The arrays that FB puts into a font.
 pub record HasFontArrays (fm fx en : ℕ) (store : List Cell) (ds : List ℕ) : Type 0 where

@@ -1,6 +1,6 @@
 -- The operators on fonts (PostScript Language Reference, 5.7: "Type 3 fonts"): a font is a dictionary whose BuildChar paints a character, and show runs it for
 -- each code of a string.
-use Rattle.std.specs.Prelude.{ℕ, ◌+◌, ◌-◌, List, [], ◌∷◌, Option, Some, None, Bool, false, if◌then◌else◌, ◌&&◌, nat_lt, nat_le, length, slice_get, codes, pos, bytes_eq}
+use Rattle.std.specs.Prelude.{ℕ, ◌+◌, List, [], ◌∷◌, Option, Some, None, Bool, false, if◌then◌else◌, ◌&&◌, nat_lt, nat_le, length, slice_get, codes, pos, bytes_eq}
 use Rattle.ps_subset.specs.Fraction.{Fraction, whole, plus, times, natural_of, is_zero}
 use Rattle.ps_subset.specs.Token.{Body}
 use Rattle.ps_subset.specs.State.{Object, Number, Literal, Text, Procedure, Array, Dictionary, Entry, Cell, Place, Graphics, FontEntry, Character, Machine, FontMade, TextShown, Outcome, quiet, failed, more, go_on, entry, entries_of, same_objects}

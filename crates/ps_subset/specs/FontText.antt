@@ -1,11 +1,10 @@
 -- The lines that make a font, and the events that they owe: each glyph is put once, by code, and then the font is defined.
-use Rattle.std.specs.Prelude.{ℕ, zero, suc, ◌+◌, ◌/◌, ◌%◌, ◌<◌, ◌≤◌, ◌^◌, List, [], ◌∷◌, ◌++◌, pos, ◌-ℤ◌, neg_ℤ, codes, decimal, true, nat_lt, if◌then◌else◌}
+use Rattle.std.specs.Prelude.{ℕ, zero, suc, ◌+◌, ◌/◌, ◌%◌, ◌<◌, ◌≤◌, ◌^◌, List, [], ◌∷◌, ◌++◌, pos, ◌-ℤ◌, neg_ℤ, codes, decimal, nat_lt, if◌then◌else◌}
 use Rattle.std.specs.Fmt.{signed_decimal}
 use Rattle.ps_subset.specs.State.{Event, PutArray, FontMade, Character}
 use Rattle.ps_subset.specs.Prolog.{line}
 use Rattle.ps_subset.specs.Lines.{natural_field, signed_field}
-use Rattle.ps_subset.specs.Fonts.{Letter, Font, font_name, IsGoodGlyph}
-use Rattle.ps_subset.specs.State as state
+use Rattle.ps_subset.specs.Fonts.{printed, Letter, Font, font_name, IsGoodGlyph}
 
 -- Fonts. A byte is two hexadecimal digits, with a line end after each 32 bytes that others follow; n are left on the line.
 abbrev pub hex_glyph : ℕ → ℕ
@@ -19,7 +18,7 @@ hex_text (suc n) (b ∷ bs) = hex_glyph (b / 16) ∷ hex_glyph (b % 16) ∷ hex_
 -- the line of a glyph: its code; its columns and rows, the matrix and the bytes of its mask, its width and its box; D
 abbrev pub letter_line : Letter → List ℕ
 letter_line l =
-    let g = l.glyph in
+    let g = printed l.glyph in
     (decimal l.code ++ codes "[") ++
     (natural_field g.columns ++ (natural_field g.rows ++ (codes "true[1 0 0 1 " ++ (signed_field g.hoff ++ ((signed_decimal g.voff ++ codes "]") ++
     ((codes "{<" ++ (hex_text 32 g.bytes ++ codes ">}")) ++
@@ -58,7 +57,7 @@ fonts_held (f ∷ fs) = letters_held (font_name f.id) f.letters ++ fonts_held fs
 -- What is asked of a text. Codes and the numbers of fonts ascend.
 abbrev pub AllGoodLetters : ℕ → List Letter → Type 0
 AllGoodLetters least [] = Unit {0}
-AllGoodLetters least (l ∷ ls) = (least ≤ l.code) × (l.code < 256) × IsGoodGlyph l.glyph × AllGoodLetters (l.code + 1) ls
+AllGoodLetters least (l ∷ ls) = (least ≤ l.code) × (l.code < 256) × IsGoodGlyph (printed l.glyph) × AllGoodLetters (l.code + 1) ls
 
 abbrev pub AllGoodFonts : ℕ → List Font → Type 0
 AllGoodFonts least [] = Unit {0}

@@ -1,10 +1,8 @@
 -- Glyphs, letters and fonts, and the masks that a string of letters makes.
-use Rattle.std.specs.Prelude.{ℕ, ◌*◌, ◌<◌, ◌≤◌, ◌^◌, ◌≡◌, List, [], ◌∷◌, ◌++◌, length, ℤ, nat_abs, ◌+ℤ◌, ◌-ℤ◌, Some, codes, decimal}
+use Rattle.std.specs.Prelude.{ℕ, ◌*◌, ◌<◌, ◌≤◌, ◌^◌, ◌≡◌, List, [], ◌∷◌, ◌++◌, length, ℤ, nat_abs, ◌+ℤ◌, ◌-ℤ◌, Some, codes, decimal, if◌then◌else◌, Bool, pos}
 use Rattle.ps_subset.specs.State.{Event, Mask}
 use Rattle.ps_subset.specs.MaskEffects.{row_bytes, rows_mark, mask_events}
 use Rattle.ps_subset.specs.Job.{Job, IsInRange, per_pixel, pixel_place}
-use Rattle.ps_subset.specs.Conditions.{number, name}
-use Rattle.ps_subset.specs.Token as token
 
 -- A glyph: its columns and rows of pixels, the columns and rows between its upper left pixel and its reference point, its rows padded to
 -- bytes, and the pixels by which it moves on.
@@ -15,6 +13,20 @@ pub record Glyph : Type 0 where
   pub voff : ℤ
   pub bytes : List ℕ
   pub width : ℤ
+
+-- Whether it has a black pixel. A text can't have a glyph without pixels: in place of a blank one it has a single white pixel, which is the reference
+-- point, and moves on by the same width.
+abbrev pub has_black : Glyph → Bool
+has_black g = rows_mark g.columns g.rows g.bytes
+
+abbrev pub printed : Glyph → Glyph
+printed g = let black = has_black g in record g {
+  columns = if black then g.columns else 1;
+  rows = if black then g.rows else 1;
+  hoff = if black then g.hoff else pos 0;
+  voff = if black then g.voff else pos 0;
+  bytes = if black then g.bytes else (0 ∷ []);
+}
 
 -- a glyph with its code
 pub record Letter : Type 0 where
@@ -29,11 +41,11 @@ pub record Font : Type 0 where
 abbrev pub font_name : ℕ → List ℕ
 font_name id = codes "F" ++ decimal id
 
--- The mask of a letter whose reference point is at the pixel (x, y), by its font's name. A glyph without a black pixel has none.
+-- The mask of a letter whose reference point is at the pixel (x, y), by its font's name. A blank glyph has none.
 abbrev pub letter_masks : Job → List ℕ → ℤ → ℤ → Letter → List Event
 letter_masks j key x y l =
     let g = l.glyph in
-    mask_events (rows_mark g.columns g.rows g.bytes)
+    mask_events (has_black g)
     (Mask (Some (record { key = key; code = l.code })) (pixel_place j (x -ℤ g.hoff) (y -ℤ g.voff)) (record { x = per_pixel j.across; y = per_pixel j.down }) g.columns g.rows g.bytes)
 
 -- the masks of a string of letters from a pixel on, and the pixel behind it
@@ -53,7 +65,7 @@ abbrev pub AllBytes : List ℕ → Type 0
 AllBytes [] = Unit {0}
 AllBytes (b ∷ bs) = (b < 256) × AllBytes bs
 
--- a glyph has columns and rows, all their bytes, and at most 65,535 of them
+-- what is asked of a glyph as it is printed: it has columns and rows, all their bytes, and at most 65,535 of them
 pub record IsGoodGlyph (g : Glyph) : Type 0 where
   pub columns_some : 0 < g.columns
   pub columns : g.columns < 2 ^ 32

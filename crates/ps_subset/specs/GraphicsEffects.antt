@@ -1,6 +1,6 @@
 -- The operators on the graphics state (PostScript Language Reference, 8.1: "Graphics state", "Coordinate system" and "Path construction"): a scale and an
 -- offset in place of the full matrix, a current place in place of a path.
-use Rattle.std.specs.Prelude.{◌-◌, List, [], ◌∷◌, Option, Some, None, if◌then◌else◌, ◌||◌, nat_lt, length, option_and_then, pos}
+use Rattle.std.specs.Prelude.{List, [], ◌∷◌, Option, Some, None, if◌then◌else◌, ◌||◌, nat_lt, length, option_and_then, pos}
 use Rattle.ps_subset.specs.Fraction.{Fraction, whole, plus, minus, times, over, is_zero}
 use Rattle.ps_subset.specs.State.{Object, Number, Place, Frame, Graphics, Machine, push}
 

@@ -1,6 +1,6 @@
 -- The items of a page, the lines that write them, and the events that they owe. Lines go on from what the lines before them have left: the place, the
 -- font, and the way that was kept.
-use Rattle.std.specs.Prelude.{ℕ, ◌+◌, ◌<◌, ◌≤◌, ◌^◌, ◌≡◌, List, [], ◌∷◌, ◌++◌, length, ℤ, pos, nat_abs, ◌-ℤ◌, ◌<ℤ◌, codes, Bool, true, false, nat_eq, if◌then◌else◌, Option, Some, None, ◌⊎◌}
+use Rattle.std.specs.Prelude.{ℕ, ◌<◌, ◌≤◌, ◌^◌, ◌≡◌, List, [], ◌∷◌, ◌++◌, length, ℤ, pos, nat_abs, ◌-ℤ◌, ◌<ℤ◌, codes, Bool, true, false, nat_eq, if◌then◌else◌, Option, Some, None, ◌⊎◌}
 use Rattle.ps_subset.specs.Fraction.{same_ℤ}
 use Rattle.ps_subset.specs.State.{Event, TextShown}
 use Rattle.ps_subset.specs.Prolog.{line}

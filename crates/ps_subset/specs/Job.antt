@@ -3,7 +3,6 @@
 use Rattle.std.specs.Prelude.{ℕ, ◌<◌, ◌^◌, [], ◌∷◌, ℤ, pos, nat_abs, ◌+ℤ◌, ◌-ℤ◌, ◌*ℤ◌, None}
 use Rattle.ps_subset.specs.Fraction.{Fraction, whole, times, minus, lowest}
 use Rattle.ps_subset.specs.State.{Event, Mask, Place}
-use Rattle.ps_subset.specs.Prolog.{prolog, line}
 
 -- The numbers of the line TS: the paper's height in scaled points, the pixels of an inch across and down, and the pixels between the paper's
 -- upper left corner and the origin.

@@ -1,6 +1,6 @@
 -- A text whose pages are given by their marks, and the events that it owes but for its strings.
 use Rattle.std.specs.Prelude.{ℕ, ◌<◌, ◌≤◌, ◌^◌, ◌≡◌, List, [], ◌∷◌, ◌++◌, length, ℤ, pos, ◌+ℤ◌, ◌<ℤ◌, Bool, Some}
-use Rattle.ps_subset.specs.State.{Event, Shown}
+use Rattle.ps_subset.specs.State.{Event, Shown, in_order}
 use Rattle.ps_subset.specs.Run.{events}
 use Rattle.ps_subset.specs.Job.{Job, IsGoodJob, IsInRange}
 use Rattle.ps_subset.specs.Lines.{AllNotes, comment_events, head_events}
@@ -50,7 +50,7 @@ printout_of t = record { comments = t.comments; head = t.head; headers = t.heade
 
 -- the events owed: the fonts of each section, and then the marks of its pages, each shown with the glyphs of the section
 abbrev pub page_owed : Bool → ℕ → Job → List Font → Page → List Event
-page_owed comments copies j fonts p = comment_events comments (page_comment (page_of p)) ++ (marks_events j p.marks ++ Shown copies (fonts_held fonts) ∷ [])
+page_owed comments copies j fonts p = comment_events comments (page_comment (page_of p)) ++ (marks_events j p.marks ++ Shown copies (in_order (fonts_held fonts)) ∷ [])
 
 abbrev pub pages_owed : Bool → ℕ → Job → List Font → List Page → List Event
 pages_owed comments copies j fonts [] = []

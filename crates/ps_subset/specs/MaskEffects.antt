@@ -1,6 +1,6 @@
 -- imagemask (PostScript Language Reference, 4.10: "Images"): a procedure gives the rows of samples, and a mask is painted where the scale and offset say.
 use Rattle.std.specs.Prelude.{ℕ, zero, suc, ◌+◌, ◌-◌, ◌*◌, ◌/◌, ◌^◌, List, [], ◌∷◌, Option, Some, None, Bool, true, false, if◌then◌else◌, ◌&&◌, ◌||◌, nat_eq, nat_lt, nat_le, length, slice_get, take, drop}
-use Rattle.ps_subset.specs.Fraction.{Fraction, minus, times, over, size, natural_of}
+use Rattle.ps_subset.specs.Fraction.{Fraction, minus, times, size, natural_of}
 use Rattle.ps_subset.specs.Token.{Body}
 use Rattle.ps_subset.specs.State.{Object, Number, Truth, Text, Procedure, Array, Cell, Elements, Frame, Character, Machine, Event, Mask, Outcome, failed, go_on, same_objects}
 

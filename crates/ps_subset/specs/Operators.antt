@@ -1,9 +1,9 @@
 -- The operators, and what each does: its operands, its result and what else it changes (PostScript Language Reference, chapter 8, for the subset that
 -- the texts use). What no rule covers is none.
-use Rattle.std.specs.Prelude.{ℕ, suc, ◌-◌, [], ◌∷◌, Option, Some, None, if◌then◌else◌, nat_lt, option_and_then, codes, replicate}
-use Rattle.ps_subset.specs.Fraction.{whole, plus, times, over, negative}
+use Rattle.std.specs.Prelude.{ℕ, suc, [], ◌∷◌, Option, Some, None, if◌then◌else◌, nat_lt, option_and_then, codes, replicate}
+use Rattle.ps_subset.specs.Fraction.{plus, times, over, negative}
 use Rattle.ps_subset.specs.Token.{Body}
-use Rattle.ps_subset.specs.State.{Number, Array, Dictionary, Mark, Null, Elements, Entries, Machine, Shown, Outcome, failed, quiet, value_in, push, held_glyphs}
+use Rattle.ps_subset.specs.State.{Number, Array, Dictionary, Mark, Null, Elements, Entries, Machine, Shown, Outcome, failed, quiet, value_in, push, held_glyphs, in_order}
 use Rattle.ps_subset.specs.StackEffects.{with_number, with_pair, with_count, with_place, exch_effect, dup_effect, pop_effect, with_quotient, index_effect, roll_effect}
 use Rattle.ps_subset.specs.StoreEffects.{def_effect, make, begin_effect, end_effect, down_to_mark, close_effect, save_effect, restore_effect, put_effect, get_effect, aload_effect}
 use Rattle.ps_subset.specs.GraphicsEffects.{gsave_effect, grestore_effect, point, moved, translated, with_frame, at_place, scale_effect, push_place, first_frame}
@@ -50,7 +50,7 @@ pub data Operator : Type 0 where
 -- showpage takes the copies from #copies, a whole number from 1 to 65,535
 abbrev pub show_page : Option ℕ → Machine → Outcome
 show_page (Some (suc n)) m =
-    if nat_lt (suc n) 65536 then (Some (record m { graphics = record m.graphics { frame = first_frame; place = None } }), Shown (suc n) (held_glyphs m.fonts m.store) ∷ []) else failed
+    if nat_lt (suc n) 65536 then (Some (record m { graphics = record m.graphics { frame = first_frame; place = None } }), Shown (suc n) (in_order (held_glyphs m.fonts m.store)) ∷ []) else failed
 show_page _ m = failed
 
 -- What an operator does, where `beside` runs a procedure at the level at which the operator itself runs, and `deeper` one level deeper.

@@ -1,7 +1,7 @@
 -- A printout: the whole text of a job, with its head, the prolog, the headers that it passes on, its setup and its sections of fonts and pages; and the
 -- events that its run owes.
-use Rattle.std.specs.Prelude.{ℕ, ◌+◌, ◌%◌, ◌<◌, ◌≤◌, ◌^◌, List, [], ◌∷◌, ◌++◌, length, ℤ, codes, decimal, Bool}
-use Rattle.ps_subset.specs.State.{Event, Shown}
+use Rattle.std.specs.Prelude.{ℕ, ◌<◌, ◌≤◌, ◌^◌, List, [], ◌∷◌, ◌++◌, length, ℤ, codes, decimal, Bool}
+use Rattle.ps_subset.specs.State.{Event, Shown, in_order}
 use Rattle.ps_subset.specs.Prolog.{prolog, line}
 use Rattle.ps_subset.specs.Job.{Job, IsGoodJob, IsInRange}
 use Rattle.ps_subset.specs.Lines.{signed_field, comment_line, comment_events, head_lines, head_events, setup_lines, AllNotes}
@@ -9,7 +9,6 @@ use Rattle.ps_subset.specs.Fonts.{Font}
 use Rattle.ps_subset.specs.Items.{Item, first_pen, lines_from, items_events, AllGoodItems}
 use Rattle.ps_subset.specs.Blocks.{headers_lines, headers_events, AllShort}
 use Rattle.ps_subset.specs.FontText.{fonts_lines, fonts_events, fonts_held, AllGoodFonts}
-use Rattle.ps_subset.specs.State as state
 
 -- a page: the number that it has in the document, its number in the text, and its items
 pub record Page : Type 0 where
@@ -65,7 +64,7 @@ text_of t =
     comment_line t.comments (codes "%%EOF")))))))))))
 
 abbrev pub page_events : Bool → ℕ → Job → List Font → Page → List Event
-page_events comments copies j fonts p = comment_events comments (page_comment p) ++ (items_events j p.items ++ Shown copies (fonts_held fonts) ∷ [])
+page_events comments copies j fonts p = comment_events comments (page_comment p) ++ (items_events j p.items ++ Shown copies (in_order (fonts_held fonts)) ∷ [])
 
 abbrev pub pages_events : Bool → ℕ → Job → List Font → List Page → List Event
 pages_events comments copies j fonts [] = []

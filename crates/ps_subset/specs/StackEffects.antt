@@ -1,7 +1,7 @@
 -- The operators on operands and numbers (PostScript Language Reference, 8.1: "Operand stack manipulation" and "Arithmetic"): what they take from the
 -- top of the stack and what they leave there. What no rule here covers is none.
-use Rattle.std.specs.Prelude.{ℕ, ◌+◌, ◌-◌, List, [], ◌∷◌, ◌++◌, Option, Some, None, if◌then◌else◌, ◌&&◌, nat_lt, nat_le, length, slice_get, option_and_then, option_map, take, drop}
-use Rattle.ps_subset.specs.Fraction.{Fraction, whole, natural_of}
+use Rattle.std.specs.Prelude.{ℕ, List, [], ◌∷◌, ◌++◌, Option, Some, None, if◌then◌else◌, ◌&&◌, nat_lt, nat_le, length, slice_get, option_and_then, option_map, take, drop}
+use Rattle.ps_subset.specs.Fraction.{Fraction, natural_of}
 use Rattle.ps_subset.specs.State.{Object, Number, Place, Machine, push}
 
 -- a number on top

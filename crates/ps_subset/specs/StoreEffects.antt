@@ -1,6 +1,6 @@
 -- The operators on dictionaries, arrays and saved states (PostScript Language Reference, 8.1: "Dictionary", "Array" and "Virtual memory"). Dictionaries and
 -- arrays are places of a store; a save keeps a copy of it.
-use Rattle.std.specs.Prelude.{ℕ, suc, ◌+◌, ◌-◌, List, [], ◌∷◌, ◌++◌, Option, Some, None, Bool, true, false, if◌then◌else◌, ◌&&◌, ◌||◌, nat_eq, nat_lt, nat_le, length, slice_get, slice_set, option_and_then, reverse}
+use Rattle.std.specs.Prelude.{ℕ, suc, ◌+◌, List, [], ◌∷◌, ◌++◌, Option, Some, None, Bool, true, false, if◌then◌else◌, ◌&&◌, ◌||◌, nat_eq, nat_lt, nat_le, length, slice_get, slice_set, option_and_then, reverse}
 use Rattle.ps_subset.specs.Fraction.{natural_of}
 use Rattle.ps_subset.specs.State.{Object, Number, Literal, Array, Dictionary, Mark, Save, Cell, Elements, Entries, Copy, Machine, Event, PutArray, Outcome, failed, entry, with_entry, entries_of, elements_of, push}
 

@@ -1,7 +1,6 @@
 -- Strings as a text writes them (PostScript Language Reference, 3.2: "Strings"): a visible character as it is, a parenthesis or backslash behind a backslash,
 -- any other code as a backslash and three octal digits.
 use Rattle.std.specs.Prelude.{ℕ, ◌+◌, ◌/◌, ◌%◌, List, [], ◌∷◌, ◌++◌, codes, ◌&&◌, ◌||◌, nat_eq, nat_le, if◌then◌else◌}
-use Rattle.ps_subset.specs.State as state
 
 -- a code in a string
 abbrev pub escape : ℕ → List ℕ
