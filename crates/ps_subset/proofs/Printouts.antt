@@ -10,7 +10,7 @@ use Rattle.ps_subset.specs.Conditions.{number, prolog_state}
 use Rattle.ps_subset.specs.FontConditions.{HasFontArrays}
 use Rattle.ps_subset.specs.Printout.{Printout, text_of, events_of, sections_lines, sections_events, IsGoodText}
 use Rattle.ps_subset.specs.Blocks.{headers_lines, headers_events, AllShort}
-use Rattle.ps_subset.specs.PrintLaws.{EventsOfPrintout, EventsOfCutPrintout}
+use Rattle.ps_subset.specs.Laws.{EventsOfPrintout, EventsOfCutPrintout}
 use Rattle.ps_subset.proofs.Open.{machine_open}
 use Rattle.ps_subset.proofs.Steps.{◌▸◌, done, end_goes}
 use Rattle.ps_subset.proofs.Reading.{end_reads}

@@ -1,13 +1,12 @@
 -- A string's text is read as its codes.
 use Rattle.std.proofs.Common.{◌≡◌, refl, ap, sym, ◌∙◌, ℕ, ◌+◌, ◌-◌, ◌*◌, ◌/◌, ◌%◌, ◌<◌, ◌≤◌, List, [], ◌∷◌, ◌++◌, length, Some, arith, Bool, true, false, append_assoc}
 use Rattle.std.specs.Prelude.{nat_eq, nat_le, ◌&&◌, ◌||◌, not, if◌then◌else◌}
-use Rattle.std.proofs.lemmas.List.{append-nil}
+use Rattle.std.proofs.lemmas.List.{append-nil, length-append}
 use Rattle.std.proofs.lemmas.Bool.Decides.{nat_tests}
 use Rattle.ps_subset.specs.Token.{Text}
 use Rattle.ps_subset.specs.Reading.{Quoted, between, tokens_from, next, begin, Plain, unescaped, prepend, text_of, is_octal, tokens}
 use Rattle.ps_subset.specs.Fonts.{AllBytes}
-use Rattle.ps_subset.specs.PrintLaws.{StringsRead}
-use Rattle.ps_subset.specs.Strings.{escape, escapes, string_text}
+use Rattle.ps_subset.specs.Strings.{escape, escapes, string_text, StringsRead, LongStrings, ReadsBack}
 use Rattle.ps_subset.proofs.Reading.{Reads}
 use Rattle.ps_subset.proofs.FontSteps.{nat_le_yes}
 use Rattle.ps_subset.proofs.Numbers.{and_left, and_right}
@@ -96,3 +95,31 @@ string_reads cs all short = record {
 pub strings_read : StringsRead
 unfolding tokens
 strings_read cs rest all short = (string_reads cs all short).by rest
+
+too_long : (n : ℕ) → 65535 < n → nat_le n 65535 ≡ false
+too_long n h = grind (arith, nat_tests)
+
+pub long_strings : LongStrings
+unfolding tokens
+long_strings cs rest all long =
+    ap (λ l. tokens_from between (40 ∷ l)) (append_assoc (escapes cs) (41 ∷ []) rest) ∙ begins (escapes cs ++ 41 ∷ rest) ∙ passes [] (escapes cs) (41 ∷ rest) false (escapes_pass cs all) ∙
+    ends (escapes cs) rest ∙ ap (λ o. text_of o ∷ tokens_from between rest) (escapes_say cs all) ∙ rw (too_long (length cs) long) refl
+
+-- a code between others
+escapes-append : (xs ys : List ℕ) → escapes (xs ++ ys) ≡ escapes xs ++ escapes ys
+escapes-append [] ys = refl
+escapes-append (x ∷ xs) ys = ap (λ l. escape x ++ l) (escapes-append xs ys) ∙ sym (append_assoc (escape x) (escapes xs) (escapes ys))
+
+all_bytes-append : (xs ys : List ℕ) → AllBytes xs → AllBytes ys → AllBytes (xs ++ ys)
+all_bytes-append [] ys f g = g
+all_bytes-append (x ∷ xs) ys f g = (f.0, all_bytes-append xs ys f.1 g)
+
+pub reads_back : (code : ℕ) → code < 256 → ReadsBack code (escape code)
+reads_back code small before behind rest f g short =
+    let n = length-append before (code ∷ behind) in
+    ap tokens (ap (λ l. 40 ∷ l) (
+    ap (λ l. escapes before ++ l) (ap (λ l. escape code ++ l) (sym (append_assoc (escapes behind) (41 ∷ []) rest)) ∙ sym (append_assoc (escape code) (escapes behind ++ 41 ∷ []) rest)) ∙
+    sym (append_assoc (escapes before) (escape code ++ (escapes behind ++ 41 ∷ [])) rest) ∙
+    ap (λ l. l ++ rest) (ap (λ l. escapes before ++ l) (sym (append_assoc (escape code) (escapes behind) (41 ∷ []))) ∙ sym (append_assoc (escapes before) (escapes (code ∷ behind)) (41 ∷ [])) ∙ ap (λ l. l ++ 41 ∷ []) (sym (escapes-append before (code ∷ behind))))
+    )) ∙
+    strings_read (before ++ code ∷ behind) rest (all_bytes-append before (code ∷ behind) f (small, g)) (omega (arith, n, short))
