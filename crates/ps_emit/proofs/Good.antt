@@ -6,15 +6,15 @@ use Rattle.std.specs.Ordering.{int_eq}
 use Rattle.std.proofs.lemmas.Bool.Decides.{nat_tests}
 use Rattle.std.proofs.lemmas.Int.{ints}
 use Rattle.dv_base.specs.FileName as name
-use Rattle.ps_subset.specs.RuleText.{Item, AllGoodItems, AllGoodPages}
+use Rattle.ps_subset.specs.Items.{IsSmall, AllGoodItems}
+use Rattle.ps_subset.specs.Printout.{AllGoodPages, AllGoodSections}
 use Rattle.ps_subset.specs.Lines.{AllNotes, is_one_line}
 use Rattle.ps_subset.specs.Job.{IsInRange}
-use Rattle.ps_subset.specs.RuleText.Item.{Across, Down, To, Rule}
 use Rattle.ps_subset.proofs.Numbers.{and_left, and_right, one_line-append, one_line-decimal}
 use Rattle.ps_emit.specs.declared.setup.Setup.{Setup}
 use Rattle.ps_emit.specs.Setup.{head_of, points_up}
-use Rattle.ps_emit.specs.Items.{Pixel, Painted, origin, way, items_of}
-use Rattle.ps_emit.specs.PagesText.{RulePage, pages_of}
+use Rattle.ps_emit.specs.Items.{Painted, items_of}
+use Rattle.ps_emit.specs.PagesText.{RulePage, pages_of, section_of}
 use Rattle.ps_emit.specs.Laws.{is_visible, IsGoodSetup, AllGoodRules, AllGoodRulePages, TextIsGood, TakenAreGood}
 use Rattle.ps_emit.specs.Taken.{painted_of, IsTakeable}
 use Rattle.positions.specs.Mark.{Mark}
@@ -53,48 +53,29 @@ head_good true s good =
       ),
     )
 
--- the way from one pixel to another, by whether their rows and their columns are the same
-chosen_good : (row column : Bool) (dx dy x y : ℤ) → IsInRange dx → IsInRange dy → IsInRange x → IsInRange y →
-    AllGoodItems (if row then (if column then [] else Across dx ∷ []) else (if column then Down dy ∷ [] else To x y ∷ []))
-chosen_good true true dx dy x y p q r s = tt
-chosen_good true false dx dy x y p q r s = (p, tt)
-chosen_good false true dx dy x y p q r s = (q, tt)
-chosen_good false false dx dy x y p q r s = ((r, s), tt)
+small : (x : ℤ) → unsigned_abs x < 2 ^ 32 → IsSmall x
+small x p = omega (arith, p)
 
--- what a place is asked for
-abbrev IsNear : Pixel → Type 0
-IsNear p = (unsigned_abs p.x < 2 ^ 32) × (unsigned_abs p.y < 2 ^ 32)
+wide : (x : ℤ) → unsigned_abs x < 2 ^ 32 → IsInRange x
+wide x p = omega (arith, p)
 
-apart : (x y : ℤ) → unsigned_abs x < 2 ^ 32 → unsigned_abs y < 2 ^ 32 → IsInRange (x -ℤ y)
-apart x y p q = omega (arith, ints, p, q)
+items_good : (rs : List Painted) → AllGoodRules rs → AllGoodItems [] (items_of rs)
+items_good [] all = tt
+items_good (r ∷ rs) all = let h = all.0 in ((small r.at.x h.x, small r.at.y h.y, h.columns_some, wide r.columns h.columns, h.rows_some, wide r.rows h.rows), items_good rs all.1)
 
-wider : (x : ℤ) → unsigned_abs x < 2 ^ 32 → IsInRange x
-wider x p = omega (arith, p)
-
-way_good : (from to : Pixel) → IsNear from → IsNear to → AllGoodItems (way from to)
-way_good from to f t =
-    chosen_good (int_eq from.y to.y) (int_eq from.x to.x) (to.x -ℤ from.x) (to.y -ℤ from.y) to.x to.y (apart to.x from.x t.0 f.0) (apart to.y from.y t.1 f.1) (wider to.x t.0) (wider to.y t.1)
-
-good-append : (is js : List Item) → AllGoodItems is → AllGoodItems js → AllGoodItems (is ++ js)
-good-append [] js f g = g
-good-append (i ∷ is) js f g = (f.0, good-append is js f.1 g)
-
-items_good : (from : Pixel) (rs : List Painted) → IsNear from → AllGoodRules rs → AllGoodItems (items_of from rs)
-items_good from [] f all = tt
-items_good from (r ∷ rs) f all =
-    let h = all.0 in
-    good-append (way from r.at ++ Rule r.columns r.rows ∷ []) (items_of r.at rs)
-    (good-append (way from r.at) (Rule r.columns r.rows ∷ []) (way_good from r.at f (h.x, h.y)) ((h.columns_some, wider r.columns h.columns, h.rows_some, wider r.rows h.rows), tt))
-    (items_good r.at rs (h.x, h.y) all.1)
-
-pages_good : (ps : List RulePage) → AllGoodRulePages ps → AllGoodPages (pages_of ps)
+pages_good : (ps : List RulePage) → AllGoodRulePages ps → AllGoodPages [] (pages_of ps)
 pages_good [] all = tt
 pages_good (p ∷ ps) all =
-    (record { label = omega (arith, (all.0).label); number = omega (arith, (all.0).number); items = items_good origin p.rules (lit< tt, lit< tt) (all.0).rules }, pages_good ps all.1)
+    (record { label = omega (arith, (all.0).label); number = omega (arith, (all.0).number); items = items_good p.rules (all.0).rules }, pages_good ps all.1)
+
+section_good : (ps : List RulePage) → AllGoodRulePages ps → AllGoodSections (section_of ps)
+section_good [] all = tt
+section_good (p ∷ ps) all = (record { fonts = tt; few = omega arith; pages = pages_good (p ∷ ps) all }, tt)
 
 pub text_is_good : TextIsGood
 text_is_good comments s pages good fine = record {
   head = head_good comments s good;
+  headers = tt;
   copies_some = omega (arith, good.copies_some);
   copies = omega (arith, good.copies_few);
   job = record {
@@ -106,7 +87,7 @@ text_is_good comments s pages good fine = record {
     origin_x = good.origin_x;
     origin_y = good.origin_y;
   };
-  pages = pages_good pages fine;
+  sections = section_good pages fine;
 }
 
 pub taken_are_good : TakenAreGood

@@ -5,8 +5,7 @@ use Rattle.std.proofs.lemmas.List.{append-nil}
 use Rattle.dv_base.specs.declared.tray.Tray.{Ghosts}
 use Rattle.positions.specs.Mark.{Rule, Special}
 use Rattle.positions.specs.Mark.Mark.{OfRule, OfSpecial}
-use Rattle.ps_subset.specs.RuleText.{item_lines}
-use Rattle.ps_emit.specs.Items.{Pixel, Painted, rule_items}
+use Rattle.ps_emit.specs.Items.{Pixel, Painted, rule_lines}
 use Rattle.ps_emit.specs.Written.{Wrote, Cut, Writes, wrote_nothing}
 use Rattle.ps_emit.specs.Shown.{tray_of, loan_of, comments_of, place_of}
 use Rattle.ps_emit.specs.Taken.{mark_lines, Took, Refused}
@@ -18,17 +17,17 @@ special_taken {T} {G} e s = record { wrote = wrote_nothing (G.seen (tray_of e));
 abbrev painted : Rule → Painted
 painted r = record { at = record { x = r.x; y = r.y }; columns = r.columns; rows = r.rows }
 
-one_line : (from : Pixel) (r : Rule) → item_lines (rule_items from (painted r)) ≡ mark_lines from (OfRule r ∷ [])
-one_line from r = ap item_lines (sym (append-nil (rule_items from (painted r))))
+one_line : (from : Pixel) (r : Rule) → rule_lines from (painted r) ≡ mark_lines from (OfRule r ∷ [])
+one_line from r = sym (append-nil (rule_lines from (painted r)))
 
 pub rule_taken : {T X E : Type 0} {G : Ghosts T} (old new : Emitter T G) (r : Rule) (result : Result X E)
-    → Writes (item_lines (rule_items (place_of old) (painted r))) (G.seen (tray_of old)) (G.seen (tray_of new)) result → loan_of new ≡ loan_of old → comments_of new ≡ comments_of old → place_of new ≡ (painted r).at
+    → Writes (rule_lines (place_of old) (painted r)) (G.seen (tray_of old)) (G.seen (tray_of new)) result → loan_of new ≡ loan_of old → comments_of new ≡ comments_of old → place_of new ≡ (painted r).at
     → OnOk result (Took old new (OfRule r ∷ []))
 rule_taken {G = G} old new r (Ok v) f l g h = record { loan_same = l; wrote = subst (λ text. Wrote text (G.seen (tray_of old)) (G.seen (tray_of new))) (one_line (place_of old) r) f; comments_same = g; place = h }
 rule_taken old new r (Err e) f l g h = tt
 
 pub rule_refused : {T X E : Type 0} {G : Ghosts T} (old new : Emitter T G) (r : Rule) (result : Result X E)
-    → Writes (item_lines (rule_items (place_of old) (painted r))) (G.seen (tray_of old)) (G.seen (tray_of new)) result → loan_of new ≡ loan_of old → comments_of new ≡ comments_of old
+    → Writes (rule_lines (place_of old) (painted r)) (G.seen (tray_of old)) (G.seen (tray_of new)) result → loan_of new ≡ loan_of old → comments_of new ≡ comments_of old
     → IfErr result (λ fault. Refused old new [] (OfRule r))
 rule_refused old new r (Ok v) f l g = tt
 rule_refused {G = G} old new r (Err e) f l g = record {

@@ -1,16 +1,34 @@
--- The way that is neither along a row nor down a column.
-use Rattle.std.proofs.Common.{◌≡◌, Bool, true, false, [], ◌∷◌, refl, sym, Decides}
-use Rattle.std.specs.Ordering.{int_eq}
-use Rattle.std.specs.Cmp.{signed_Decides}
-use Rattle.ps_subset.specs.RuleText.Item.{To}
-use Rattle.ps_emit.specs.Items.{Pixel, way}
+-- The moves from one pixel to another, by the tests of their rows and columns.
+use Rattle.std.proofs.Common.{◌≡◌, refl, ap, true, false, arith}
+use Rattle.std.specs.Prelude.{ℤ, ◌-ℤ◌, ◌++◌, pos, negsuc, codes}
+use Rattle.std.proofs.lemmas.Bool.Decides.{nat_tests}
+use Rattle.ps_subset.specs.Fraction.{same_ℤ}
+use Rattle.ps_subset.specs.Prolog.{line}
+use Rattle.ps_subset.specs.Lines.{signed_field}
+use Rattle.ps_subset.specs.Items.{to_line, move_line}
+use Rattle.ps_emit.specs.Items.{Pixel, pen_at}
 
-differs : (b : Bool) (P : Type 0) → Decides b P → (P → ⊥) → b ≡ false
-differs true P d n = absurd (n (d.0 refl))
-differs false P d n = refl
+pub same_yes : (a b : ℤ) → a ≡ b → same_ℤ a b ≡ true
+same_yes (pos a) (pos b) h = let e : a ≡ b = grind (arith, h) in grind (arith, nat_tests)
+same_yes (negsuc a) (negsuc b) h = let e : a ≡ b = grind (arith, h) in grind (arith, nat_tests)
+same_yes (pos a) (negsuc b) h = absurd (grind (arith, h))
+same_yes (negsuc a) (pos b) h = absurd (grind (arith, h))
 
-pub way_to : (from to : Pixel) → (to.y ≡ from.y → ⊥) → (to.x ≡ from.x → ⊥) → way from to ≡ To to.x to.y ∷ []
-way_to from to h k =
-    let y : int_eq from.y to.y ≡ false = differs (int_eq from.y to.y) (from.y ≡ to.y) (signed_Decides from.y to.y) (λ e. h (sym e)) in
-    let x : int_eq from.x to.x ≡ false = differs (int_eq from.x to.x) (from.x ≡ to.x) (signed_Decides from.x to.x) (λ e. k (sym e)) in
-    rw (y, x) refl
+pub same_no : (a b : ℤ) → (a ≡ b → ⊥) → same_ℤ a b ≡ false
+same_no (pos a) (pos b) h = let off : a ≡ b → ⊥ = λ e. h (ap pos e) in grind (arith, nat_tests)
+same_no (negsuc a) (negsuc b) h = let off : a ≡ b → ⊥ = λ e. h (ap negsuc e) in grind (arith, nat_tests)
+same_no (pos a) (negsuc b) h = refl
+same_no (negsuc a) (pos b) h = refl
+
+module _ (from to : Pixel) where
+  pub stays : from.y ≡ to.y → from.x ≡ to.x → move_line (pen_at from) to.x to.y ≡ []
+  stays e f = rw (same_yes from.y to.y e, same_yes from.x to.x f) refl
+
+  pub goes_across : from.y ≡ to.y → (from.x ≡ to.x → ⊥) → move_line (pen_at from) to.x to.y ≡ signed_field (to.x -ℤ from.x) ++ line (codes "w")
+  goes_across e n = rw (same_yes from.y to.y e, same_no from.x to.x n) refl
+
+  pub goes_down : (from.y ≡ to.y → ⊥) → from.x ≡ to.x → move_line (pen_at from) to.x to.y ≡ signed_field (to.y -ℤ from.y) ++ line (codes "x")
+  goes_down n e = rw (same_no from.y to.y n, same_yes from.x to.x e) refl
+
+  pub goes_to : (from.y ≡ to.y → ⊥) → (from.x ≡ to.x → ⊥) → move_line (pen_at from) to.x to.y ≡ to_line to.x to.y
+  goes_to n k = rw (same_no from.y to.y n, same_no from.x to.x k) refl

@@ -2,21 +2,17 @@
 use Rattle.std.specs.Prelude.{ℕ, List, [], ◌∷◌, ◌++◌, pos, ◌+ℤ◌, ◌-ℤ◌, codes, decimal, Bool, None}
 use Rattle.std.specs.Fmt.{signed_decimal}
 use Rattle.ps_subset.specs.State.{Event, Mask, Shown}
-use Rattle.ps_subset.specs.Job.{Job, pixel_place, pixels_size}
+use Rattle.ps_subset.specs.Job.{Job, rule_mask}
 use Rattle.ps_subset.specs.Lines.{comment_events, head_events}
 use Rattle.ps_emit.specs.Items.{Painted}
 use Rattle.ps_emit.specs.PagesText.{RulePage}
 use Rattle.ps_emit.specs.Setup.{head_of, job_of}
 use Rattle.ps_emit.specs.declared.setup.Setup.{Setup}
 
--- A rule is one black sample of the size of its columns and rows, and nobody's glyph. Its upper left pixel stands so many rows above its
--- lower left one that both are counted.
-abbrev pub ink : Job → Painted → Event
-ink j r = Mask None (pixel_place j r.at.x (r.at.y +ℤ pos 1 -ℤ r.rows)) (pixels_size j r.columns r.rows) 1 1 (128 ∷ [])
-
+-- the masks of rules, in order; each is nobody's glyph
 abbrev pub inks : Job → List Painted → List Event
 inks j [] = []
-inks j (r ∷ rs) = ink j r ∷ inks j rs
+inks j (r ∷ rs) = rule_mask j r.at.x r.at.y r.columns r.rows ∷ inks j rs
 
 abbrev pub page_title : RulePage → List ℕ
 page_title p = codes "%%Page: " ++ (signed_decimal p.label ++ 32 ∷ decimal p.number)

@@ -1,8 +1,6 @@
--- The lines of a page between bop and eop, from its rules.
-use Rattle.std.specs.Prelude.{List, [], ◌∷◌, ◌++◌, ℤ, pos, ◌-ℤ◌, if◌then◌else◌}
-use Rattle.std.specs.Ordering.{int_eq}
-use Rattle.ps_subset.specs.RuleText.{Item}
-use Rattle.ps_subset.specs.RuleText.Item.{Across, Down, To, Rule}
+-- The lines of a page between bop and eop, from its rules: each is an item of the page, and a page of rules has no fonts and no blocks.
+use Rattle.std.specs.Prelude.{ℕ, List, [], ◌∷◌, ℤ, pos, false, None}
+use Rattle.ps_subset.specs.Items.{Item, Rule, Pen, item_lines, lines_from}
 
 -- a pixel: columns to the right and rows down from that of the origin
 pub record Pixel : Type 0 where
@@ -18,21 +16,25 @@ pub record Painted : Type 0 where
   pub columns : ℤ
   pub rows : ℤ
 
--- The way from one pixel to another: none where they are the same, else across on the same row, down in the same column, else to it.
-abbrev pub way : Pixel → Pixel → List Item
-way from to =
-    if int_eq from.y to.y then (if int_eq from.x to.x then [] else Across (to.x -ℤ from.x) ∷ [])
-    else (if int_eq from.x to.x then Down (to.y -ℤ from.y) ∷ [] else To to.x to.y ∷ [])
+abbrev pub item_of : Painted → Item
+item_of r = Rule r.columns r.rows r.at.x r.at.y
+
+abbrev pub items_of : List Painted → List Item
+items_of [] = []
+items_of (r ∷ rs) = item_of r ∷ items_of rs
+
+-- what the lines before have left, where the place is this pixel
+abbrev pub pen_at : Pixel → Pen
+pen_at p = record { x = p.x; y = p.y; font = None; delta = pos 0; lost = false }
+
+-- the lines of a rule, and of rules one after another, from the place that the lines before leave
+abbrev pub rule_lines : Pixel → Painted → List ℕ
+rule_lines from r = item_lines (pen_at from) (item_of r) None
+
+abbrev pub rules_lines : Pixel → List Painted → List ℕ
+rules_lines from rs = lines_from (pen_at from) (items_of rs)
 
 -- A rule leaves the place at its lower left pixel.
-abbrev pub rule_items : Pixel → Painted → List Item
-rule_items from r = way from r.at ++ Rule r.columns r.rows ∷ []
-
-abbrev pub items_of : Pixel → List Painted → List Item
-items_of from [] = []
-items_of from (r ∷ rs) = rule_items from r ++ items_of r.at rs
-
--- the place behind the rules
 abbrev pub place_after : Pixel → List Painted → Pixel
 place_after from [] = from
 place_after from (r ∷ rs) = place_after r.at rs

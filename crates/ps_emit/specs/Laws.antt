@@ -5,7 +5,7 @@ use Rattle.dv_base.specs.FileName as name
 use Rattle.positions.specs.Mark.{Mark}
 use Rattle.ps_subset.specs.State.{Event}
 use Rattle.ps_subset.specs.Run.{events}
-use Rattle.ps_subset.specs.RuleText.{IsGoodText, text_of}
+use Rattle.ps_subset.specs.Printout.{IsGoodText, text_of}
 use Rattle.ps_emit.specs.Items.{Painted}
 use Rattle.ps_emit.specs.PagesText.{RulePage, text_of_job, sections_of}
 use Rattle.ps_emit.specs.Expected.{expected}

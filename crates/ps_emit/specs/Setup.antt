@@ -3,6 +3,7 @@ use Rattle.std.specs.Prelude.{ℕ, ◌+◌, ◌*◌, ◌/◌, List, [], ◌∷�
 use Rattle.dv_base.specs.FileName.{text_of}
 use Rattle.ps_subset.specs.Prolog.{line, prolog}
 use Rattle.ps_subset.specs.Job.{Job}
+use Rattle.ps_subset.specs.Blocks.{headers_lines}
 use Rattle.ps_subset.specs.Lines.{comment_line, head_lines, setup_lines}
 use Rattle.ps_emit.specs.declared.setup.Setup.{Setup}
 
@@ -25,14 +26,6 @@ head_of true s =
     codes "%%EndComments" ∷ []
 head_of false s = codes "%!PS" ∷ []
 
--- a header's bytes, passed over by the machine: they are announced by their number, and a line end follows them
-abbrev pub block_lines : List ℕ → List ℕ
-block_lines bytes = line (codes "%TeXblock: " ++ decimal (length bytes)) ++ line bytes
-
-abbrev pub blocks_lines : List (List ℕ) → List ℕ
-blocks_lines [] = []
-blocks_lines (b ∷ bs) = block_lines b ++ blocks_lines bs
-
 -- the comments at the head, and the one before the prolog
 abbrev pub head_text : Bool → Setup → List ℕ
 head_text comments s = head_lines (head_of comments s) ++ comment_line comments (codes "%%BeginProlog")
@@ -47,7 +40,7 @@ job_text comments s =
 
 -- all that stands before the first section
 abbrev pub prologue_of : Bool → Setup → List (List ℕ) → List ℕ
-prologue_of comments s headers = head_text comments s ++ (prolog ++ (blocks_lines headers ++ job_text comments s))
+prologue_of comments s headers = head_text comments s ++ (prolog ++ (headers_lines headers ++ job_text comments s))
 
 -- all that stands behind the last section
 abbrev pub trailer_of : Bool → List ℕ

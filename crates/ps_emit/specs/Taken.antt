@@ -4,8 +4,7 @@ use Rattle.dv_base.specs.Tray.{Seen}
 use Rattle.dv_base.specs.declared.tray.Tray.{Ghosts}
 use Rattle.positions.specs.Mark.{Mark, IsModerate}
 use Rattle.positions.specs.Mark.Mark.{OfGlyph, OfRule, OfSpecial}
-use Rattle.ps_subset.specs.RuleText.{item_lines}
-use Rattle.ps_emit.specs.Items.{Pixel, Painted, items_of, place_after}
+use Rattle.ps_emit.specs.Items.{Pixel, Painted, rules_lines, place_after}
 use Rattle.ps_emit.specs.Written.{Wrote, Cut}
 use Rattle.ps_emit.specs.Shown.{tray_of, loan_of, comments_of, place_of}
 use Rattle.ps_emit.specs.declared.emitter.Emitter.{Emitter}
@@ -19,7 +18,7 @@ painted_of (OfSpecial s ∷ ms) = painted_of ms
 
 -- their lines, from the place that the lines before leave
 abbrev pub mark_lines : Pixel → List Mark → List ℕ
-mark_lines from marks = item_lines (items_of from (painted_of marks))
+mark_lines from marks = rules_lines from (painted_of marks)
 
 -- a rule has columns and rows, and the numbers of a mark are not too large
 abbrev pub IsTakeable : Mark → Type 0

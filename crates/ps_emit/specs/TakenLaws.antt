@@ -6,16 +6,11 @@ use Rattle.dv_base.specs.declared.tray.Tray.{Ghosts}
 use Rattle.positions.specs.Mark.{Glyph, Mark}
 use Rattle.positions.specs.Mark.Mark.{OfGlyph, OfRule, OfSpecial}
 use Rattle.positions.specs.Conditions.{SameCondition}
-use Rattle.ps_subset.specs.RuleText.{Item, item_line, item_lines}
-use Rattle.ps_emit.specs.Items.{Pixel, Painted, rule_items, items_of, place_after}
+use Rattle.ps_emit.specs.Items.{Pixel, Painted, rule_lines, rules_lines, place_after}
 use Rattle.ps_emit.specs.Written.{Wrote, Cut, wrote_nothing, wrote_more, cut_later, cut_longer}
 use Rattle.ps_emit.specs.Shown.{tray_of, place_of}
 use Rattle.ps_emit.specs.Taken.{painted_of, mark_lines, CanTake, Took, Refused}
 use Rattle.ps_emit.specs.declared.emitter.Emitter.{Emitter}
-
-pub item_lines-append : (is js : List Item) → item_lines (is ++ js) ≡ item_lines is ++ item_lines js
-item_lines-append [] js = refl
-item_lines-append (i ∷ is) js = ap (λ bs. item_line i ++ bs) (item_lines-append is js) ∙ sym (append_assoc (item_line i) (item_lines is) (item_lines js))
 
 painted_of-append : (xs ys : List Mark) → painted_of (xs ++ ys) ≡ painted_of xs ++ painted_of ys
 painted_of-append [] ys = refl
@@ -23,20 +18,17 @@ painted_of-append (OfGlyph g ∷ xs) ys = painted_of-append xs ys
 painted_of-append (OfRule r ∷ xs) ys = ap (λ ps. record { at = record { x = r.x; y = r.y }; columns = r.columns; rows = r.rows } ∷ ps) (painted_of-append xs ys)
 painted_of-append (OfSpecial s ∷ xs) ys = painted_of-append xs ys
 
-items_of-append : (from : Pixel) (ps qs : List Painted) → items_of from (ps ++ qs) ≡ items_of from ps ++ items_of (place_after from ps) qs
-items_of-append from [] qs = refl
-items_of-append from (p ∷ ps) qs =
-    ap (λ is. rule_items from p ++ is) (items_of-append p.at ps qs) ∙ sym (append_assoc (rule_items from p) (items_of p.at ps) (items_of (place_after p.at ps) qs))
+rules_lines-append : (from : Pixel) (ps qs : List Painted) → rules_lines from (ps ++ qs) ≡ rules_lines from ps ++ rules_lines (place_after from ps) qs
+rules_lines-append from [] qs = refl
+rules_lines-append from (p ∷ ps) qs =
+    ap (λ bs. rule_lines from p ++ bs) (rules_lines-append p.at ps qs) ∙ sym (append_assoc (rule_lines from p) (rules_lines p.at ps) (rules_lines (place_after p.at ps) qs))
 
 place_after-append : (from : Pixel) (ps qs : List Painted) → place_after from (ps ++ qs) ≡ place_after (place_after from ps) qs
 place_after-append from [] qs = refl
 place_after-append from (p ∷ ps) qs = place_after-append p.at ps qs
 
 mark_lines-append : (from : Pixel) (xs ys : List Mark) → mark_lines from (xs ++ ys) ≡ mark_lines from xs ++ mark_lines (place_after from (painted_of xs)) ys
-mark_lines-append from xs ys =
-    ap (λ ps. item_lines (items_of from ps)) (painted_of-append xs ys)
-    ∙ ap item_lines (items_of-append from (painted_of xs) (painted_of ys))
-    ∙ item_lines-append (items_of from (painted_of xs)) (items_of (place_after from (painted_of xs)) (painted_of ys))
+mark_lines-append from xs ys = ap (rules_lines from) (painted_of-append xs ys) ∙ rules_lines-append from (painted_of xs) (painted_of ys)
 
 place_behind : (from : Pixel) (xs ys : List Mark) → place_after from (painted_of (xs ++ ys)) ≡ place_after (place_after from (painted_of xs)) (painted_of ys)
 place_behind from xs ys = ap (place_after from) (painted_of-append xs ys) ∙ place_after-append from (painted_of xs) (painted_of ys)

@@ -1,8 +1,7 @@
 //! The writer of a text.
 ghost use Rattle.std.specs.Prelude.{◌≡◌, ◌<◌, ◌^◌, OnErr, OnOk, codes, map, unsigned_abs, ◌++◌, [], ◌∷◌};
 ghost use Rattle.ps_subset.specs.Prolog.{line};
-ghost use Rattle.ps_subset.specs.RuleText.{item_lines};
-ghost use Rattle.ps_emit.specs.Items.{origin, rule_items};
+ghost use Rattle.ps_emit.specs.Items.{origin, rule_lines};
 ghost use Rattle.ps_emit.specs.PagesText.{page_begin};
 ghost use Rattle.ps_emit.specs.Written.{Writes};
 
@@ -28,7 +27,8 @@ pub struct Emitter<'a, T: Tray> {
 
 impl<'a, T: Tray> Emitter<'a, T> {
     ghost use Rattle.ps_emit.specs.Shown.{Stays, comments_of, loan_of, place_of, tray_of};
-    ghost use Rattle.ps_emit.specs.Setup.{block_lines, blocks_lines, prologue_of, trailer_of};
+    ghost use Rattle.ps_emit.specs.Setup.{prologue_of, trailer_of};
+    ghost use Rattle.ps_subset.specs.Blocks.{block_lines, headers_lines};
 
     /// A writer to this tray; without `comments` it leaves the structured comments out.
     pub fn new(tray: &'a mut T, comments: bool) -> Emitter<'a, T>
@@ -74,7 +74,7 @@ impl<'a, T: Tray> Emitter<'a, T> {
 
     fn blocks(&mut self, headers: &[Vec<u8>]) -> Result<(), WriteFault>
         requires { 0 < (T.seen (tray_of self.old)).begun }
-        ensures writes { Writes (blocks_lines (map (λ h. h.items) headers.now)) (T.seen (tray_of self.old)) (T.seen (tray_of self.new)) result }
+        ensures writes { Writes (headers_lines (map (λ h. h.items) headers.now)) (T.seen (tray_of self.old)) (T.seen (tray_of self.new)) result }
         ensures stays { Stays self.old self.new }
     {
         for header in headers {
@@ -140,7 +140,7 @@ impl<'a, T: Tray> Emitter<'a, T> {
     fn painted(&mut self, x: i64, y: i64, columns: i64, rows: i64) -> Result<(), WriteFault>
         requires begun { 0 < (T.seen (tray_of self.old)).begun }
         requires near { (unsigned_abs x < 2 ^ 32) × (unsigned_abs y < 2 ^ 32) }
-        ensures writes { Writes (item_lines (rule_items (place_of self.old) (record { at = record { x = x; y = y }; columns = columns; rows = rows })))
+        ensures writes { Writes (rule_lines (place_of self.old) (record { at = record { x = x; y = y }; columns = columns; rows = rows }))
             (T.seen (tray_of self.old)) (T.seen (tray_of self.new)) result }
         ensures loan { loan_of self.new ≡ loan_of self.old }
         ensures comments { comments_of self.new ≡ comments_of self.old }

@@ -2,8 +2,8 @@
 ghost use Rattle.std.specs.Prelude.{◌≡◌, ◌≤◌, ◌<◌, ◌+◌, ◌++◌, ◌^◌, [], ◌∷◌, length, codes, decimal, pos, ◌<ℤ◌, ◌≤ℤ◌, unsigned_abs};
 ghost use Rattle.std.specs.Fmt.{signed_decimal};
 ghost use Rattle.ps_subset.specs.Prolog.{line};
-ghost use Rattle.ps_subset.specs.RuleText.{item_lines};
-ghost use Rattle.ps_emit.specs.Items.{Painted, Pixel, rule_items, way};
+ghost use Rattle.ps_subset.specs.Items.{move_line};
+ghost use Rattle.ps_emit.specs.Items.{Painted, Pixel, pen_at, rule_lines};
 ghost use Rattle.ps_emit.specs.PagesText.{page_begin};
 
 use dv_base::Line;
@@ -38,7 +38,7 @@ pub fn page(comments: bool, label: i32, number: u32) -> Line
 fn way_lines(from: (i64, i64), to: (i64, i64)) -> Line
     requires from { (unsigned_abs from.0 < 2 ^ 32) × (unsigned_abs from.1 < 2 ^ 32) }
     requires to { (unsigned_abs to.0 < 2 ^ 32) × (unsigned_abs to.1 < 2 ^ 32) }
-    ensures value { result ≡ item_lines (way (record { x = from.0; y = from.1 }) (record { x = to.0; y = to.1 })) }
+    ensures value { result ≡ move_line (pen_at (record { x = from.0; y = from.1 })) to.0 to.1 }
     ensures len { length result ≤ 90 }
 {
     let mut line = Line::new();
@@ -62,7 +62,7 @@ fn way_lines(from: (i64, i64), to: (i64, i64)) -> Line
 pub fn rule(from: (i64, i64), to: (i64, i64), columns: i64, rows: i64) -> Line
     requires from { (unsigned_abs from.0 < 2 ^ 32) × (unsigned_abs from.1 < 2 ^ 32) }
     requires to { (unsigned_abs to.0 < 2 ^ 32) × (unsigned_abs to.1 < 2 ^ 32) }
-    ensures { result ≡ item_lines (rule_items (record { x = from.0; y = from.1 }) (record { at = record { x = to.0; y = to.1 }; columns = columns; rows = rows })) }
+    ensures { result ≡ rule_lines (record { x = from.0; y = from.1 }) (record { at = record { x = to.0; y = to.1 }; columns = columns; rows = rows }) }
 {
     let mut line = way_lines(from, to);
     line.field(columns);

@@ -1,7 +1,6 @@
 use Rattle.std.proofs.Common.{append_assoc, refl, rules, w64}
 use Rattle.std.specs.Prelude.{FitsSigned}
 use Rattle.std.proofs.lemmas.Int.{to_z-of_z}
-use Rattle.ps_emit.specs.TakenLaws.{item_lines-append}
 use Rattle.ps_emit.proofs.items.rule.Goals as goal
 
 pub returns : goal.returns
@@ -13,7 +12,6 @@ returns c =
       c.field-2.ensures.value,
       c.field.ensures.value,
       c.way_lines-line.ensures.value,
-      item_lines-append,
       to_z-of_z w64 c.args.columns columns,
       to_z-of_z w64 c.args.rows rows,
     )

@@ -1,7 +1,7 @@
 use Rattle.std.proofs.Common.{append_assoc, refl, rules, w64}
 use Rattle.std.specs.Prelude.{FitsSigned}
 use Rattle.std.proofs.lemmas.Int.{to_z-of_z}
-use Rattle.ps_emit.proofs.Ways.{way_to}
+use Rattle.ps_emit.proofs.Ways.{goes_to}
 use Rattle.ps_emit.proofs.items.way_lines.Goals as goal
 
 pub returns-else-to-from-3-clause-value : goal.returns-else-to-from-3-clause-value
@@ -13,7 +13,7 @@ returns-else-to-from-3-clause-value c =
       c.field-else-to-from-3-2.ensures.value,
       c.field-else-to-from-3.ensures.value,
       c.new-line.ensures,
-      way_to (record { x = c.args.from.0; y = c.args.from.1 }) (record { x = c.args.to.0; y = c.args.to.1 }) (λ e. c.if-to-from.false (cc)) (λ e. c.if-to-from-3.false (cc)),
+      goes_to (record { x = c.args.from.0; y = c.args.from.1 }) (record { x = c.args.to.0; y = c.args.to.1 }) (λ e. c.if-to-from.false (cc)) (λ e. c.if-to-from-3.false (cc)),
       to_z-of_z w64 c.args.to.0 x,
       to_z-of_z w64 c.args.to.1 y,
     )

@@ -1,5 +1,5 @@
 use Rattle.std.proofs.Common.{refl, ◌+◌, map, take}
-use Rattle.ps_emit.specs.Setup.{blocks_lines}
+use Rattle.ps_subset.specs.Blocks.{headers_lines}
 use Rattle.ps_emit.specs.Shown.{tray_of, stays_more}
 use Rattle.ps_emit.specs.Written.{Cut, cut_writes, cut_longer, cut_later, wrote_more, wrote_nothing}
 use Rattle.ps_emit.proofs.Lines.{blocks_more, blocks_split}
@@ -21,7 +21,7 @@ loop-header-preserved g c =
 pub returns-in_err-block-clause-writes : goal.returns-in_err-block-clause-writes
 returns-in_err-block-clause-writes g c =
     let seen = g.T.Tray.seen in
-    let front : Cut (blocks_lines (map (λ h. h.items) (take (c.loop-header.header-index + 1) c.args.headers.now))) (seen (tray_of c.args.self.now)) (seen (tray_of c.block.new.self)) =
+    let front : Cut (headers_lines (map (λ h. h.items) (take (c.loop-header.header-index + 1) c.args.headers.now))) (seen (tray_of c.args.self.now)) (seen (tray_of c.block.new.self)) =
     rw (← (blocks_more (λ h. h.items) c.args.headers.now c.loop-header.header-index c.header-item.result c.loop-header-test.true c.header-item.is))
     (cut_later _ _ _ _ _ c.loop-header.invariant.wrote (rw c.as_slice.ensures.value at c.in_err-block.ensures.writes)) in
     cut_writes _ _ _ _ c.from_residual.ensures.0
