@@ -1,10 +1,8 @@
 -- The text of a good job is a good text.
-use Rattle.std.proofs.Common.{◌≡◌, refl, ℕ, ◌<◌, ◌^◌, List, [], ◌∷◌, ◌++◌, Bool, true, false, arith, lit<}
-use Rattle.std.specs.Prelude.{codes, decimal, ℤ, unsigned_abs, ◌-ℤ◌, nat_eq, not, if◌then◌else◌}
+use Rattle.std.proofs.Common.{◌≡◌, refl, ℕ, ◌<◌, ◌^◌, List, [], ◌∷◌, ◌++◌, Bool, true, false, arith}
+use Rattle.std.specs.Prelude.{codes, decimal, ℤ, unsigned_abs, nat_eq, not}
 use Rattle.std.specs.List.{list_all}
-use Rattle.std.specs.Ordering.{int_eq}
 use Rattle.std.proofs.lemmas.Bool.Decides.{nat_tests}
-use Rattle.std.proofs.lemmas.Int.{ints}
 use Rattle.dv_base.specs.FileName as name
 use Rattle.ps_subset.specs.Items.{IsSmall, AllGoodItems}
 use Rattle.ps_subset.specs.Printout.{AllGoodPages, AllGoodSections}
@@ -95,6 +93,6 @@ taken_are_good [] all = tt
 taken_are_good (m ∷ ms) all = go m (all m (Contains-append_left (m ∷ []) ms m (Contains-push [] m))) (taken_are_good ms (λ n h. all n (Contains-append_right (m ∷ []) ms n h)))
   where
     go : (n : Mark) → IsTakeable n → AllGoodRules (painted_of ms) → AllGoodRules (painted_of (n ∷ ms))
-    go (OfGlyph g) h rest = rest
+    go (OfGlyph g) h rest = absurd h
     go (OfRule r) h rest = (record { x = (h.2).0; y = (h.2).1; columns_some = h.0; columns = (h.2).2; rows_some = h.1; rows = (h.2).3 }, rest)
     go (OfSpecial s) h rest = rest

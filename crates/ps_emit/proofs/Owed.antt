@@ -1,10 +1,7 @@
 -- The events of the text are those that the job owes.
-use Rattle.std.proofs.Common.{◌≡◌, refl, ap, sym, ◌∙◌, List, [], ◌∷◌, ◌++◌, Bool, true, false, Some, arith, append_assoc, Decides}
-use Rattle.std.specs.Prelude.{codes, decimal, ℤ, pos, ◌+ℤ◌, ◌-ℤ◌, if◌then◌else◌}
+use Rattle.std.proofs.Common.{◌≡◌, refl, ap, sym, ◌∙◌, List, [], ◌∷◌, ◌++◌, Bool, Some, append_assoc}
+use Rattle.std.specs.Prelude.{codes, decimal}
 use Rattle.std.specs.Fmt.{signed_decimal}
-use Rattle.std.specs.Ordering.{int_eq}
-use Rattle.std.specs.Cmp.{signed_Decides}
-use Rattle.std.proofs.lemmas.Int.{ints}
 use Rattle.ps_subset.specs.State.{Shown}
 use Rattle.ps_subset.specs.Items.{items_events}
 use Rattle.ps_subset.specs.Printout.{page_comment, pages_events, sections_events, events_of}

@@ -1,5 +1,5 @@
 -- The moves from one pixel to another, by the tests of their rows and columns.
-use Rattle.std.proofs.Common.{◌≡◌, refl, ap, true, false, arith}
+use Rattle.std.proofs.Common.{◌≡◌, refl, ap, [], true, false, arith}
 use Rattle.std.specs.Prelude.{ℤ, ◌-ℤ◌, ◌++◌, pos, negsuc, codes}
 use Rattle.std.proofs.lemmas.Bool.Decides.{nat_tests}
 use Rattle.ps_subset.specs.Fraction.{same_ℤ}

@@ -1,7 +1,7 @@
 -- The events that a job owes, by the rules of its pages.
-use Rattle.std.specs.Prelude.{ℕ, List, [], ◌∷◌, ◌++◌, pos, ◌+ℤ◌, ◌-ℤ◌, codes, decimal, Bool, None}
+use Rattle.std.specs.Prelude.{ℕ, List, [], ◌∷◌, ◌++◌, codes, decimal, Bool}
 use Rattle.std.specs.Fmt.{signed_decimal}
-use Rattle.ps_subset.specs.State.{Event, Mask, Shown}
+use Rattle.ps_subset.specs.State.{Event, Shown}
 use Rattle.ps_subset.specs.Job.{Job, rule_mask}
 use Rattle.ps_subset.specs.Lines.{comment_events, head_events}
 use Rattle.ps_emit.specs.Items.{Painted}

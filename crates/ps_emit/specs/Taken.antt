@@ -1,4 +1,4 @@
--- What an emitter takes as a canvas: a painted rule is written, and a glyph or a special is passed over.
+-- What an emitter takes as a canvas: a painted rule is written, a special is passed over, and no glyph can be given to it.
 use Rattle.std.specs.Prelude.{◌≡◌, ◌<◌, List, [], ◌∷◌, ℕ, pos, ◌<ℤ◌}
 use Rattle.dv_base.specs.Tray.{Seen}
 use Rattle.dv_base.specs.declared.tray.Tray.{Ghosts}
@@ -20,9 +20,9 @@ painted_of (OfSpecial s ∷ ms) = painted_of ms
 abbrev pub mark_lines : Pixel → List Mark → List ℕ
 mark_lines from marks = rules_lines from (painted_of marks)
 
--- a rule has columns and rows, and the numbers of a mark are not too large
+-- No glyph is taken, since a text has no fonts yet. A rule has columns and rows, and the numbers of a mark are not too large.
 abbrev pub IsTakeable : Mark → Type 0
-IsTakeable (OfGlyph g) = IsModerate (OfGlyph g)
+IsTakeable (OfGlyph g) = ⊥
 IsTakeable (OfRule r) = (pos 0 <ℤ r.columns) × (pos 0 <ℤ r.rows) × IsModerate (OfRule r)
 IsTakeable (OfSpecial s) = IsModerate (OfSpecial s)
 

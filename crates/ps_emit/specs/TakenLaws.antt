@@ -3,7 +3,7 @@ use Rattle.std.specs.Prelude.{◌≡◌, List, [], ◌∷◌, ◌++◌}
 use Rattle.std.proofs.Common.{refl, sym, ap, ◌∙◌, subst, append_assoc, arith}
 use Rattle.dv_base.specs.Tray.{Seen}
 use Rattle.dv_base.specs.declared.tray.Tray.{Ghosts}
-use Rattle.positions.specs.Mark.{Glyph, Mark}
+use Rattle.positions.specs.Mark.{Mark}
 use Rattle.positions.specs.Mark.Mark.{OfGlyph, OfRule, OfSpecial}
 use Rattle.positions.specs.Conditions.{SameCondition}
 use Rattle.ps_emit.specs.Items.{Pixel, Painted, rule_lines, rules_lines, place_after}
@@ -41,10 +41,6 @@ both_written from next xs ys a b c e f g =
 
 pub took_nothing : {T : Type 0} {G : Ghosts T} (e : Emitter T G) → Took e e []
 took_nothing {T} {G} e = record { wrote = wrote_nothing (G.seen (tray_of e)); loan_same = refl; comments_same = refl; place = refl }
-
--- a glyph writes nothing
-pub took_glyph : {T : Type 0} {G : Ghosts T} (e : Emitter T G) (g : Glyph) → Took e e (OfGlyph g ∷ [])
-took_glyph {T} {G} e g = let f = took_nothing e in record { wrote = f.wrote; comments_same = f.comments_same; place = f.place; loan_same = f.loan_same }
 
 pub took_more : {T : Type 0} {G : Ghosts T} (a b c : Emitter T G) (xs ys : List Mark) → Took a b xs → Took b c ys → Took a c (xs ++ ys)
 took_more {T} {G} a b c xs ys f g = record {

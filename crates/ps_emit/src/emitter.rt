@@ -22,6 +22,7 @@ pub struct Emitter<'a, T: Tray> {
     comments: bool,
     x: i64,
     y: i64,
+    line: Line,
     ghost near: { (unsigned_abs x < 2 ^ 32) × (unsigned_abs y < 2 ^ 32) },
 }
 
@@ -41,6 +42,7 @@ impl<'a, T: Tray> Emitter<'a, T> {
             comments,
             x: 0,
             y: 0,
+            line: Line::new(),
         }
     }
 
@@ -53,12 +55,13 @@ impl<'a, T: Tray> Emitter<'a, T> {
         write_all(self.tray, text)
     }
 
-    fn put_line(&mut self, line: &Line) -> Result<(), WriteFault>
+    /// Writes the line that was put together.
+    fn put_line(&mut self) -> Result<(), WriteFault>
         requires { 0 < (T.seen (tray_of self.old)).begun }
-        ensures writes { Writes line.now (T.seen (tray_of self.old)) (T.seen (tray_of self.new)) result }
+        ensures writes { Writes self.old.line (T.seen (tray_of self.old)) (T.seen (tray_of self.new)) result }
         ensures stays { Stays self.old self.new }
     {
-        self.put(line.as_slice())
+        write_all(self.tray, self.line.as_slice())
     }
 
     /// Writes bytes that the machine passes over.
@@ -67,7 +70,8 @@ impl<'a, T: Tray> Emitter<'a, T> {
         ensures writes { Writes (block_lines bytes.now) (T.seen (tray_of self.old)) (T.seen (tray_of self.new)) result }
         ensures stays { Stays self.old self.new }
     {
-        self.put_line(&items::announced(bytes.len()))?;
+        items::announced(&mut self.line, bytes.len());
+        self.put_line()?;
         self.put(bytes)?;
         self.put(b"\n")
     }
@@ -90,10 +94,12 @@ impl<'a, T: Tray> Emitter<'a, T> {
         ensures stays { Stays self.old self.new }
     {
         let comments = self.comments;
-        self.put_line(&head::head(comments, setup))?;
+        head::head(&mut self.line, comments, setup);
+        self.put_line()?;
         self.put(PROLOG)?;
         self.blocks(headers)?;
-        self.put_line(&head::job(comments, setup))
+        head::job(&mut self.line, comments, setup);
+        self.put_line()
     }
 
     /// Begins a section.
@@ -124,7 +130,8 @@ impl<'a, T: Tray> Emitter<'a, T> {
     {
         self.x = 0;
         self.y = 0;
-        self.put_line(&items::page(self.comments, label, number))
+        items::page(&mut self.line, self.comments, label, number);
+        self.put_line()
     }
 
     /// Ends a page.
@@ -146,10 +153,10 @@ impl<'a, T: Tray> Emitter<'a, T> {
         ensures comments { comments_of self.new ≡ comments_of self.old }
         ensures place { place_of self.new ≡ record { x = x; y = y } }
     {
-        let line = items::rule((self.x, self.y), (x, y), columns, rows);
+        items::rule(&mut self.line, (self.x, self.y), (x, y), columns, rows);
         self.x = x;
         self.y = y;
-        self.put_line(&line)
+        self.put_line()
     }
 
     /// Writes what stands behind the last section.
@@ -158,7 +165,8 @@ impl<'a, T: Tray> Emitter<'a, T> {
         ensures writes { Writes (trailer_of (comments_of self.old)) (T.seen (tray_of self.old)) (T.seen (tray_of self.new)) result }
         ensures stays { Stays self.old self.new }
     {
-        self.put_line(&head::trailer(self.comments))
+        head::trailer(&mut self.line, self.comments);
+        self.put_line()
     }
 }
 
@@ -175,7 +183,7 @@ impl<'a, T: Tray> Canvas for Emitter<'a, T> {
 
     ghost refuses = { λ old new marks mark fault. Refused old new marks mark };
 
-    /// Writes nothing: a text has no fonts yet.
+    /// Writes nothing: a text has no fonts yet, so no glyph can be given.
     fn glyph(&mut self, _mark: &GlyphMark) -> Result<(), WriteFault> {
         Ok(())
     }

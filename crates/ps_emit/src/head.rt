@@ -1,4 +1,4 @@
-//! The lines before the first page and behind the last.
+//! The lines before the first page and behind the last. Each function makes them of a line that may hold anything before.
 ghost use Rattle.std.specs.Prelude.{◌≡◌, ◌≤◌, ◌+◌, ◌++◌, length};
 ghost use Rattle.ps_subset.specs.Lines.{comment_line};
 ghost use Rattle.ps_emit.specs.Setup.{head_text, job_text, points_up, trailer_of};
@@ -26,13 +26,13 @@ fn comment(line: &mut Line, comments: bool, text: &[u8])
 }
 
 /// The comments at the head of a text, and the one before the prolog.
-pub fn head(comments: bool, setup: &Setup) -> Line
-    ensures { result ≡ head_text comments setup.now }
+pub fn head(line: &mut Line, comments: bool, setup: &Setup)
+    ensures { line.new ≡ head_text comments setup.now }
 {
-    let mut line = Line::new();
+    line.clear();
     if !comments {
         line.text(b"%!PS\n");
-        return line;
+        return;
     }
     line.text(b"%!PS-Adobe-2.0\n%%Creator: texdvi\n%%Title: ");
     line.text(setup.title.as_str().as_bytes());
@@ -42,16 +42,15 @@ pub fn head(comments: bool, setup: &Setup) -> Line
     line.field(points_up(setup.paper.0));
     line.number(points_up(setup.paper.1));
     line.text(b"\n%%EndComments\n%%BeginProlog\n");
-    line
 }
 
 /// What stands between the prolog and the first section: the number of copies and the numbers of the page.
-pub fn job(comments: bool, setup: &Setup) -> Line
-    ensures { result ≡ job_text comments setup.now }
+pub fn job(line: &mut Line, comments: bool, setup: &Setup)
+    ensures { line.new ≡ job_text comments setup.now }
 {
-    let mut line = Line::new();
-    comment(&mut line, comments, b"%%EndProlog");
-    comment(&mut line, comments, b"%%BeginSetup");
+    line.clear();
+    comment(line, comments, b"%%EndProlog");
+    comment(line, comments, b"%%BeginSetup");
     line.text(b"/#copies ");
     line.field(setup.copies);
     line.text(b"def\nTeXDict begin\n");
@@ -61,17 +60,15 @@ pub fn job(comments: bool, setup: &Setup) -> Line
     line.field(setup.origin.0);
     line.field(setup.origin.1);
     line.text(b"TS\n");
-    comment(&mut line, comments, b"%%EndSetup");
-    line
+    comment(line, comments, b"%%EndSetup");
 }
 
 /// What stands behind the last section.
-pub fn trailer(comments: bool) -> Line
-    ensures { result ≡ trailer_of comments }
+pub fn trailer(line: &mut Line, comments: bool)
+    ensures { line.new ≡ trailer_of comments }
 {
-    let mut line = Line::new();
-    comment(&mut line, comments, b"%%Trailer");
+    line.clear();
+    comment(line, comments, b"%%Trailer");
     line.text(b"end\n");
-    comment(&mut line, comments, b"%%EOF");
-    line
+    comment(line, comments, b"%%EOF");
 }

@@ -22,7 +22,7 @@ returns c =
       c.as_bytes.ensures.value,
       c.as_str.ensures.value,
       c.text-2.ensures.value,
-      c.new-line.ensures,
+      c.clear.ensures,
       to_z-of_z w64 c.args.setup.now.paper.0 width,
       to_z-of_z w64 c.args.setup.now.paper.1 height,
     )

@@ -21,7 +21,7 @@ returns c =
       c.text.ensures.value,
       c.comment-2.ensures.value,
       c.comment.ensures.value,
-      c.new-line.ensures,
+      c.clear.ensures,
       to_z-of_z w64 c.args.setup.now.paper.1 height,
       to_z-of_z w64 c.args.setup.now.origin.0 x,
       to_z-of_z w64 c.args.setup.now.origin.1 y,

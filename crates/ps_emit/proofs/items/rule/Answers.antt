@@ -11,7 +11,8 @@ returns c =
       c.text.ensures.value,
       c.field-2.ensures.value,
       c.field.ensures.value,
-      c.way_lines-line.ensures.value,
+      c.way.ensures.value,
+      c.clear.ensures,
       to_z-of_z w64 c.args.columns columns,
       to_z-of_z w64 c.args.rows rows,
     )
