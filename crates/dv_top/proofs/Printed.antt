@@ -16,7 +16,7 @@ use Rattle.dvi_doc.specs.declared.page.Page.{Page}
 use Rattle.dvi_doc.specs.declared.fault.DocFault.{DocFault}
 use Rattle.dvi_doc.specs.declared.fault.DocFault.TheVariants as fault
 use Rattle.vf_expand.specs.Grid.{Grid}
-use Rattle.ps_subset.specs.RuleText as rules
+use Rattle.ps_subset.specs.Printout as rules
 use Rattle.ps_emit.specs.Laws.{AllGoodRulePages, CallsMakeText, CutTextShows, IsGoodSetup, TextShows}
 use Rattle.ps_emit.specs.PagesText.{RulePage, sections_of, text_of_job}
 use Rattle.ps_emit.specs.Setup.{prologue_of, trailer_of}

@@ -15,7 +15,7 @@ use Rattle.dvi_doc.specs.Document.{Document, PageOf}
 use Rattle.dvi_doc.specs.Faults.{FaultIn}
 use Rattle.dvi_doc.specs.declared.fault.DocFault.TheVariants as fault
 use Rattle.dvi_doc.specs.Grammar.{IsDoc, NoDoc}
-use Rattle.ps_subset.specs.RuleText as rules
+use Rattle.ps_subset.specs.Printout as rules
 use Rattle.ps_subset.specs.Run.{events}
 use Rattle.ps_subset.specs.State.{Event}
 use Rattle.ps_emit.specs.Expected.{expected}

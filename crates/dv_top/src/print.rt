@@ -6,7 +6,7 @@ ghost use Rattle.dv_base.specs.UnitPixels.{IsUsable};
 ghost use Rattle.dvi_doc.specs.Document.{Document};
 ghost use Rattle.dvi_doc.specs.Grammar.{IsDoc};
 ghost use Rattle.dvi_doc.specs.View.{IsRead};
-ghost use Rattle.ps_subset.specs.RuleText as rules;
+ghost use Rattle.ps_subset.specs.Printout as rules;
 ghost use Rattle.ps_emit.specs.PagesText.{RulePage, text_of_job};
 ghost use Rattle.ps_emit.specs.Written.{Writes};
 ghost use Rattle.dv_top.specs.JobView.{job_view};
