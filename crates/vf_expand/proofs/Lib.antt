@@ -7,3 +7,5 @@ pub mod Stopping
 pub mod Passing
 pub mod Lexing
 pub mod TreeLaws
+pub mod Faultless
+pub mod Halting

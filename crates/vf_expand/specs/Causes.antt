@@ -64,11 +64,6 @@ abbrev pub IsRefusal : {F : Type 0} → Halt F → Type 0
 IsRefusal (halt.Canvas f) = Unit {0}
 IsRefusal halt.Passed = ⊥
 
--- a limit was passed, and this is true
-abbrev pub IsPassed : {F : Type 0} → Type 0 → Halt F → Type 0
-IsPassed P halt.Passed = P
-IsPassed P (halt.Canvas f) = ⊥
-
 -- why a command that is neither push nor pop is not done, where this is the place
 abbrev pub IsHaltCause : {F : Type 0} → Command → Place → Halt F → Type 0
 IsHaltCause c p halt.Passed = Passes c p

@@ -8,3 +8,5 @@ pub mod Takes
 pub mod Causes
 pub mod Shallow
 pub mod Laws
+pub mod Faultless
+pub mod Halted

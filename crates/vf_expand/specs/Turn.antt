@@ -1,4 +1,5 @@
--- One command after another, with a list of the pushes that are open: what the commands before a moment leave.
+-- A stack machine: one command after another, with a list of the open pushes, as a program runs them. Causes name moments by it. What a
+-- page shows is said by its tree (Marks), and the law `marked_pages` joins the two.
 use Rattle.std.specs.Prelude.{List, [], ◌∷◌, reverse, Option, Some, None}
 use Rattle.dvi_ops.specs.Command.{Command}
 use Rattle.positions.specs.Place.{Place}

@@ -1,6 +1,10 @@
 //! Why a walk stopped.
+ghost use Rattle.std.specs.Prelude.{◌≡◌};
+ghost use Rattle.vf_expand.specs.declared.fault.Halt.TheVariants.{Passed as passed};
+ghost use Rattle.vf_expand.specs.Halted.{halted_at};
 
 use dv_base::Spot;
+use positions::Passed;
 
 /// Why a walk over a page stopped. A spot names the command at which it did.
 #[derive(Clone, Copy, Debug, PartialEq, Eq, Drop)]
@@ -24,4 +28,24 @@ pub enum Halt<F> {
     Passed,
     /// The canvas refused a mark with this fault.
     Canvas(F),
+}
+
+impl<F> From<Passed> for Halt<F> {
+    ghost from_gives = { λ _ halt. halt ≡ passed };
+
+    fn from(_: Passed) -> Halt<F> {
+        Halt::Passed
+    }
+}
+
+impl<F> Halt<F> {
+    /// Why the walk stops, where the command that was not done stands at `spot`.
+    pub fn at(self, spot: Spot) -> WalkFault<F>
+        ensures { result ≡ halted_at spot self }
+    {
+        match self {
+            Halt::Passed => WalkFault::Overflow(spot),
+            Halt::Canvas(fault) => WalkFault::Canvas(fault),
+        }
+    }
 }

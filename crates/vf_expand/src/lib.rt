@@ -19,12 +19,13 @@ mod grid;
 mod laws;
 mod paint;
 mod plain;
+mod shift;
 mod turn;
 mod unbuilt;
 mod walker;
 
 pub use fault::WalkFault;
-pub use laws::trees;
+pub use laws::{marked_pages, trees};
 pub use unbuilt::first_unbuilt;
 pub use walker::Walker;
 

@@ -27,10 +27,7 @@ pub fn put_rule<C: Canvas>(
 {
     if a > 0 && b > 0 {
         let mark = grid.rule(pos, a, b);
-        match canvas.rule(&mark) {
-            Ok(()) => Ok(()),
-            Err(f) => Err(Halt::Canvas(f)),
-        }
+        canvas.rule(&mark).map_err(Halt::Canvas)
     } else {
         Ok(())
     }
@@ -52,8 +49,5 @@ pub fn put_special<C: Canvas>(pos: &Pos, bytes: &[u8], canvas: &mut C) -> Result
         h: pos.h,
         v: pos.v,
     };
-    match canvas.special(&mark) {
-        Ok(()) => Ok(()),
-        Err(f) => Err(Halt::Canvas(f)),
-    }
+    canvas.special(&mark).map_err(Halt::Canvas)
 }

@@ -8,60 +8,22 @@ ghost use Rattle.vf_expand.specs.Tree.{bracket};
 ghost use Rattle.vf_expand.specs.Tree.Bracket.{Neither};
 ghost use Rattle.vf_expand.specs.Marks.{step, right_by, down_by, past_rule, marks_alone};
 ghost use Rattle.vf_expand.specs.Takes.{CanTake, Follows, Halts};
-ghost use Rattle.vf_expand.specs.Causes.{IsLarge, IsPassed, IsHaltCause};
+ghost use Rattle.vf_expand.specs.Causes.{IsLarge, IsHaltCause};
 
 use crate::fault::Halt;
 use crate::grid::Grid;
 use crate::paint::{put_rule, put_special};
+use crate::shift::shift;
 use dvi_ops::Cmd;
 use positions::{Canvas, Passed, Pos};
 
-/// Moves right by `q`.
-fn go_right<F>(grid: &Grid, pos: &mut Pos, q: i64) -> Result<(), Halt<F>>
-    requires { unsigned_abs q < 2 ^ 39 }
-    ensures ok { OnOk result (right_by grid.now q pos.old ≡ Some pos.new) }
-    ensures none { OnErr result (right_by grid.now q pos.old ≡ None) }
-    ensures cause { IfErr result (IsPassed (IsLarge (pos.old.h +ℤ q))) }
-{
-    match grid.right(pos, q) {
-        Ok(()) => Ok(()),
-        Err(Passed) => Err(Halt::Passed),
-    }
-}
-
-/// Moves down by `q`.
-fn go_down<F>(grid: &Grid, pos: &mut Pos, q: i64) -> Result<(), Halt<F>>
-    requires { unsigned_abs q < 2 ^ 39 }
-    ensures ok { OnOk result (down_by grid.now q pos.old ≡ Some pos.new) }
-    ensures none { OnErr result (down_by grid.now q pos.old ≡ None) }
-    ensures cause { IfErr result (IsPassed (IsLarge (pos.old.v +ℤ q))) }
-{
-    match grid.down(pos, q) {
-        Ok(()) => Ok(()),
-        Err(Passed) => Err(Halt::Passed),
-    }
-}
-
-/// Moves right past a rule of width `b`.
-fn go_past<F>(grid: &Grid, pos: &mut Pos, b: i64) -> Result<(), Halt<F>>
-    requires { unsigned_abs b < 2 ^ 31 }
-    ensures ok { OnOk result (past_rule grid.now b pos.old ≡ Some pos.new) }
-    ensures none { OnErr result (past_rule grid.now b pos.old ≡ None) }
-    ensures cause { IfErr result (IsPassed (IsLarge (pos.old.h +ℤ b))) }
-{
-    match grid.past_rule(pos, b) {
-        Ok(()) => Ok(()),
-        Err(Passed) => Err(Halt::Passed),
-    }
-}
-
 /// The height and width of a rule, where neither is too large.
-fn sizes<F>(a: i32, b: i32) -> Result<(i64, i64), Halt<F>>
+fn sizes(a: i32, b: i32) -> Result<(i64, i64), Passed>
     ensures ok { IfOk result (λ r. (r.0 ≡ a) × (r.1 ≡ b) × (unsigned_abs a < 2 ^ 31) × (unsigned_abs b < 2 ^ 31)) }
-    ensures cause { IfErr result (IsPassed (IsLarge a ⊎ IsLarge b)) }
+    ensures cause { OnErr result (IsLarge a ⊎ IsLarge b) }
 {
     if a == i32::MIN || b == i32::MIN {
-        Err(Halt::Passed)
+        Err(Passed)
     } else {
         Ok((a as i64, b as i64))
     }
@@ -84,7 +46,8 @@ fn set_rule<C: Canvas>(
 {
     let (height, width) = sizes(a, b)?;
     let here = *pos;
-    go_past(grid, pos, width)?;
+    // moved first: a rule whose move would pass the limit gives no mark
+    grid.past_rule(pos, width)?;
     put_rule(grid, &here, height, width, canvas)
 }
 
@@ -112,42 +75,7 @@ pub fn plain<C: Canvas>(
             put_rule(grid, pos, height, width, canvas)
         }
         Cmd::Xxx(bytes) => put_special(pos, bytes, canvas),
-        Cmd::Nop => Ok(()),
-        Cmd::FntDef(_) => Ok(()),
-        Cmd::Right(q) => go_right(grid, pos, q as i64),
-        Cmd::W0 => {
-            let q = pos.w;
-            go_right(grid, pos, q)
-        }
-        Cmd::W(q) => {
-            pos.w = q as i64;
-            go_right(grid, pos, q as i64)
-        }
-        Cmd::X0 => {
-            let q = pos.x;
-            go_right(grid, pos, q)
-        }
-        Cmd::X(q) => {
-            pos.x = q as i64;
-            go_right(grid, pos, q as i64)
-        }
-        Cmd::Down(q) => go_down(grid, pos, q as i64),
-        Cmd::Y0 => {
-            let q = pos.y;
-            go_down(grid, pos, q)
-        }
-        Cmd::Y(q) => {
-            pos.y = q as i64;
-            go_down(grid, pos, q as i64)
-        }
-        Cmd::Z0 => {
-            let q = pos.z;
-            go_down(grid, pos, q)
-        }
-        Cmd::Z(q) => {
-            pos.z = q as i64;
-            go_down(grid, pos, q as i64)
-        }
-        _ => unreachable!(),
+        Cmd::Nop | Cmd::FntDef(_) => Ok(()),
+        other => Ok(shift(grid, other, pos)?),
     }
 }

@@ -7,7 +7,7 @@ ghost use Rattle.vf_expand.specs.Turn.{turned, turn_marks, last_first};
 ghost use Rattle.vf_expand.specs.Takes.{CanTake, FollowsTurn, StopsTurn};
 ghost use Rattle.vf_expand.specs.Causes.{IsTurnCause};
 
-use crate::fault::{Halt, WalkFault};
+use crate::fault::WalkFault;
 use crate::grid::Grid;
 use crate::plain::plain;
 use dv_base::Spot;
@@ -18,6 +18,7 @@ use positions::{Canvas, Pos};
 pub const MOST_OPEN: usize = 1_000;
 
 /// Does one command of a page without characters; `spot` is where it stands, and `saved` keeps the places of the open pushes.
+#[tactic(auto, using(crate::proofs::Halting::halts_stop, crate::proofs::Halting::halt_cause))]
 pub fn turn<C: Canvas>(
     grid: &Grid,
     saved: &mut Vec<Pos>,
@@ -57,8 +58,7 @@ pub fn turn<C: Canvas>(
         },
         other => match plain(grid, other, pos, canvas) {
             Ok(()) => Ok(()),
-            Err(Halt::Passed) => Err(WalkFault::Overflow(spot)),
-            Err(Halt::Canvas(f)) => Err(WalkFault::Canvas(f)),
+            Err(halt) => Err(halt.at(spot)),
         },
     }
 }
