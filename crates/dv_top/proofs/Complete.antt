@@ -21,6 +21,8 @@ use Rattle.dv_top.specs.Pages.{IsBarePage, IsFirstUnbuiltIn}
 use Rattle.dv_top.specs.Printing.{grid_of, units_of}
 use Rattle.dv_top.specs.Reading.{IsReadCause}
 use Rattle.dv_top.specs.Runs.{InSomePage, Prints}
+use Rattle.vf_expand.specs.Faultless.{MarkedIsFaultless}
+use Rattle.dv_top.proofs.NoCause.{no_cause_in}
 use Rattle.dv_top.specs.Words.{Accepted, passes, tests}
 use Rattle.dv_top.specs.declared.outcome.Outcome.{Outcome}
 use Rattle.dv_top.specs.declared.outcome.Outcome.TheVariants as outcome
@@ -124,44 +126,44 @@ read_done job told later (outcome.BadWords index) plain shelf h = absurd h
 read_done job told later outcome.WriteFault plain shelf h = absurd h
 
 -- the document is printed
-print_done : OneDocument → (job : Job) (told : Told) (old new : Seen) (o : Outcome) → (plain : Plain job told) → (Rose old.faults new.faults → ⊥) → Prints job plain.bytes old new o → IsDoneOrRefused o
-print_done one job told old new outcome.Done plain tray h = tt
-print_done one job told old new outcome.OutOfMemory plain tray h = tt
-print_done one job told old new outcome.WriteFault plain tray h = absurd (tray h.0)
-print_done one job told old new (outcome.BadDvi kind) plain tray h = absurd (h.1.0 plain.doc plain.is)
-print_done one job told old new (outcome.NotBuilt at) plain tray (none, (d, is, cause)) =
+print_done : OneDocument → MarkedIsFaultless → (job : Job) (told : Told) (old new : Seen) (o : Outcome) → (plain : Plain job told) → (Rose old.faults new.faults → ⊥) → Prints job plain.bytes old new o → IsDoneOrRefused o
+print_done one marked job told old new outcome.Done plain tray h = tt
+print_done one marked job told old new outcome.OutOfMemory plain tray h = tt
+print_done one marked job told old new outcome.WriteFault plain tray h = absurd (tray h.0)
+print_done one marked job told old new (outcome.BadDvi kind) plain tray h = absurd (h.1.0 plain.doc plain.is)
+print_done one marked job told old new (outcome.NotBuilt at) plain tray (none, (d, is, cause)) =
     let same : d ≡ plain.doc = one plain.bytes d plain.doc is plain.is in
     absurd (bare_pages plain.doc.pages at plain.bare (subst (λ (x : Document). IsFirstUnbuiltIn x.pages at) same cause))
-print_done one job told old new (outcome.BadConv units) plain tray (none, (d, is, cause)) =
+print_done one marked job told old new (outcome.BadConv units) plain tray (none, (d, is, cause)) =
     let same : d ≡ plain.doc = one plain.bytes d plain.doc is plain.is in
     absurd (cause.1 (subst IsUsable (sym (cause.0 ∙ ap (λ (x : Document). units_of x job.dpi) same)) plain.usable))
-print_done one job told old new (outcome.StackUnder s) plain tray (none, (d, is, cause)) =
+print_done one marked job told old new (outcome.StackUnder s) plain tray (none, (d, is, cause)) =
     let same : d ≡ plain.doc = one plain.bytes d plain.doc is plain.is in
-    absurd (plain.sound (outcome.StackUnder s) (subst (λ (x : Document). InSomePage (grid_of x job.dpi) x.pages (outcome.StackUnder s)) same cause))
-print_done one job told old new (outcome.StackLeft s) plain tray (none, (d, is, cause)) =
+    absurd (no_cause_in marked (grid_of plain.doc job.dpi) plain.doc.pages 1 plain.pages plain.printed plain.shallow (outcome.StackUnder s) (subst (λ (x : Document). InSomePage (grid_of x job.dpi) x.pages (outcome.StackUnder s)) same cause))
+print_done one marked job told old new (outcome.StackLeft s) plain tray (none, (d, is, cause)) =
     let same : d ≡ plain.doc = one plain.bytes d plain.doc is plain.is in
-    absurd (plain.sound (outcome.StackLeft s) (subst (λ (x : Document). InSomePage (grid_of x job.dpi) x.pages (outcome.StackLeft s)) same cause))
-print_done one job told old new (outcome.StackDeep s) plain tray (none, (d, is, cause)) =
+    absurd (no_cause_in marked (grid_of plain.doc job.dpi) plain.doc.pages 1 plain.pages plain.printed plain.shallow (outcome.StackLeft s) (subst (λ (x : Document). InSomePage (grid_of x job.dpi) x.pages (outcome.StackLeft s)) same cause))
+print_done one marked job told old new (outcome.StackDeep s) plain tray (none, (d, is, cause)) =
     let same : d ≡ plain.doc = one plain.bytes d plain.doc is plain.is in
-    absurd (plain.sound (outcome.StackDeep s) (subst (λ (x : Document). InSomePage (grid_of x job.dpi) x.pages (outcome.StackDeep s)) same cause))
-print_done one job told old new (outcome.Overflow s) plain tray (none, (d, is, cause)) =
+    absurd (no_cause_in marked (grid_of plain.doc job.dpi) plain.doc.pages 1 plain.pages plain.printed plain.shallow (outcome.StackDeep s) (subst (λ (x : Document). InSomePage (grid_of x job.dpi) x.pages (outcome.StackDeep s)) same cause))
+print_done one marked job told old new (outcome.Overflow s) plain tray (none, (d, is, cause)) =
     let same : d ≡ plain.doc = one plain.bytes d plain.doc is plain.is in
-    absurd (plain.sound (outcome.Overflow s) (subst (λ (x : Document). InSomePage (grid_of x job.dpi) x.pages (outcome.Overflow s)) same cause))
-print_done one job told old new (outcome.Missing name) plain tray (none, (d, is, cause)) = absurd cause.2
-print_done one job told old new (outcome.FileTooLong name) plain tray (none, (d, is, cause)) = absurd cause.2
-print_done one job told old new (outcome.ReadFault name) plain tray (none, (d, is, cause)) = absurd cause.2
-print_done one job told old new (outcome.BadWords index) plain tray (none, (d, is, cause)) = absurd cause.2
+    absurd (no_cause_in marked (grid_of plain.doc job.dpi) plain.doc.pages 1 plain.pages plain.printed plain.shallow (outcome.Overflow s) (subst (λ (x : Document). InSomePage (grid_of x job.dpi) x.pages (outcome.Overflow s)) same cause))
+print_done one marked job told old new (outcome.Missing name) plain tray (none, (d, is, cause)) = absurd cause.2
+print_done one marked job told old new (outcome.FileTooLong name) plain tray (none, (d, is, cause)) = absurd cause.2
+print_done one marked job told old new (outcome.ReadFault name) plain tray (none, (d, is, cause)) = absurd cause.2
+print_done one marked job told old new (outcome.BadWords index) plain tray (none, (d, is, cause)) = absurd cause.2
 
 -- a message adds no fault
 line_faults : (text : Option (List ℕ)) (old new : Seen) → SaysLine text old new → new.faults ≡ old.faults
 line_faults None old new h = ap (λ (s : Seen). s.faults) h
 line_faults (Some text) old new h = h.faults_same
 
-job_done : OneDocument → (job : Job) (told later : Told) (old new : Seen) (o : Outcome) → Plain job told → (Rose told.faults later.faults → ⊥) → (Rose old.faults new.faults → ⊥) → Leaves job told later old new o → IsDoneOrRefused o
-job_done one job told later old new o plain shelf tray (inl (none, cause)) = read_done job told later o plain shelf cause
-job_done one job told later old new o plain shelf tray (inr (bytes, input, prints)) =
+job_done : OneDocument → MarkedIsFaultless → (job : Job) (told later : Told) (old new : Seen) (o : Outcome) → Plain job told → (Rose told.faults later.faults → ⊥) → (Rose old.faults new.faults → ⊥) → Leaves job told later old new o → IsDoneOrRefused o
+job_done one marked job told later old new o plain shelf tray (inl (none, cause)) = read_done job told later o plain shelf cause
+job_done one marked job told later old new o plain shelf tray (inr (bytes, input, prints)) =
     let same : bytes ≡ plain.bytes = held_same told.held plain.contents job.input plain.bytes bytes plain.tells plain.held input.held in
-    print_done one job told old new o plain tray (subst (λ (b : List ℕ). Prints job b old new o) same prints)
+    print_done one marked job told old new o plain tray (subst (λ (b : List ℕ). Prints job b old new o) same prints)
 
 -- words of a job lead to it
 job_leaves : (words : List (List ℕ)) (told later : Told) (old between : Seen) (o : Outcome) (job : Job) → job_of words ≡ Some job → WordsLeave words told later old between o → Leaves job told later old between o ⊎ IsDoneOrRefused o
@@ -184,7 +186,7 @@ either : {A B : Type 0} → (A → B) → A ⊎ B → B
 either f (inl a) = f a
 either f (inr b) = b
 
-pub complete : OneDocument → (words : List (List ℕ)) (told later : Told) (old between new : Seen) (o : Outcome) → WordsLeave words told later old between o → SaysLine (message_of o) between new → IsComplete words told later old new o
-complete one words told later old between new o leave say = λ job is plain shelf tray.
+pub complete : OneDocument → MarkedIsFaultless → (words : List (List ℕ)) (told later : Told) (old between new : Seen) (o : Outcome) → WordsLeave words told later old between o → SaysLine (message_of o) between new → IsComplete words told later old new o
+complete one marked words told later old between new o leave say = λ job is plain shelf tray.
     let still : Rose old.faults between.faults → ⊥ = λ r. tray (subst (λ (n : ℕ). Rose old.faults n) (sym (line_faults (message_of o) between new say)) r) in
-    either (job_done one job told later old between o plain shelf still) (job_leaves words told later old between o job is leave)
+    either (job_done one marked job told later old between o plain shelf still) (job_leaves words told later old between o job is leave)

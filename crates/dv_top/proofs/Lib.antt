@@ -10,3 +10,4 @@ pub mod Complete
 pub mod PageWritten
 pub mod Printed
 pub mod WrittenPages
+pub mod NoCause

@@ -1,5 +1,5 @@
 -- What the parts of a run say together: what was read, whether it can be printed, and what then went out.
-use Rattle.std.proofs.Common.{Bool, ◌≡◌, ◌<◌, ◌≤◌, ◌^◌, ℕ, ℤ, pos, List, [], ◌++◌, length, map, Some, Result, true, arith, refl, sym, ap, subst, ◌∙◌, inr}
+use Rattle.std.proofs.Common.{Bool, ◌≡◌, ◌<◌, ◌≤◌, ◌^◌, ℕ, ℤ, pos, List, [], ◌∷◌, ◌++◌, length, map, Some, Result, true, arith, refl, sym, ap, subst, ◌∙◌, inl, inr}
 use Rattle.std.proofs.lemmas.List.{length-map}
 use Rattle.dv_base.specs.Rounding.{Fraction}
 use Rattle.dv_base.specs.Tray.{BeginGives, Seen}
@@ -8,14 +8,15 @@ use Rattle.dv_base.specs.declared.tray.Begun.TheVariants as begun
 use Rattle.dv_base.specs.declared.units.Units.{Units}
 use Rattle.dvi_ops.specs.Command.{Preamble}
 use Rattle.dvi_doc.specs.Document.{Document}
-use Rattle.dvi_doc.specs.Faults.{NoneBut}
-use Rattle.dvi_doc.specs.Grammar.{IsDoc}
+use Rattle.dvi_doc.specs.Faults.{FaultIn, NoneBut}
+use Rattle.dvi_doc.specs.Grammar.{IsDoc, NoDoc}
 use Rattle.dvi_doc.specs.Laws.{OneDocument}
 use Rattle.dvi_doc.specs.View.{IsRead, Outline, ReadDoc, outline, page_view}
 use Rattle.dvi_doc.specs.declared.page.Page.{Page}
 use Rattle.dvi_doc.specs.declared.fault.DocFault.{DocFault}
 use Rattle.dvi_doc.specs.declared.fault.DocFault.TheVariants as fault
 use Rattle.vf_expand.specs.Grid.{Grid}
+use Rattle.vf_expand.specs.Shallow.{IsShallow}
 use Rattle.ps_subset.specs.Printout as rules
 use Rattle.ps_emit.specs.Laws.{AllGoodRulePages, CallsMakeText, CutTextShows, IsGoodSetup, TextShows}
 use Rattle.ps_emit.specs.PagesText.{RulePage, sections_of, text_of_job}
@@ -25,8 +26,9 @@ use Rattle.ps_emit.specs.declared.setup.Setup.{Setup}
 use Rattle.dv_top.specs.Each.{Each}
 use Rattle.dv_top.specs.Job.{Job}
 use Rattle.dv_top.specs.Pages.{IsReady}
+use Rattle.dv_top.specs.Unread.{unread}
 use Rattle.dv_top.specs.Printing.{IsGoodJob, IsSetupOf, grid_of, printed_from, units_of}
-use Rattle.dv_top.specs.Runs.{Began, BeganNone, InSomePage, IsPrepareCause, IsUnusable, Printable, Prints, owed_for, text_for}
+use Rattle.dv_top.specs.Runs.{Began, BeganNone, InSomePage, IsPrepareCause, IsUnusable, Printable, Prints, owed_for, text_for, IsReadingCause}
 use Rattle.dv_top.specs.declared.outcome.Outcome.{Outcome}
 use Rattle.dv_top.specs.declared.outcome.Outcome.TheVariants as outcome
 use Rattle.dv_top.proofs.Few.{document_few, read_few}
@@ -34,22 +36,22 @@ use Rattle.dv_top.proofs.Outputs.{began_all, began_front, rose_later}
 use Rattle.dv_top.proofs.Ready.{ArePrinted, all_printed}
 
 -- a fault other than want of memory refutes the document
-pub none_but : (P : Type 0) (k : DocFault) → (k ≡ fault.OutOfMemory → ⊥) → NoneBut P k → P
-none_but P fault.NoPreamble n h = h
-none_but P (fault.BadId at) n h = h
-none_but P fault.NoTrailer n h = h
-none_but P (fault.BadPostPointer at) n h = h
-none_but P (fault.BadBackPointer at) n h = h
-none_but P (fault.BadOrder at) n h = h
-none_but P (fault.Undefined at) n h = h
-none_but P (fault.Short at) n h = h
-none_but P (fault.FontTwice k) n h = h
-none_but P (fault.FontDiffers k) n h = h
-none_but P (fault.BadName k) n h = h
-none_but P (fault.BadSize k) n h = h
-none_but P (fault.PageCount found told) n h = h
-none_but P fault.PostDiffers n h = h
-none_but P fault.OutOfMemory n h = absurd (n refl)
+pub unread_cause : (bytes : List ℕ) (k : DocFault) → FaultIn bytes k → NoneBut (NoDoc bytes) k → IsReadingCause bytes (unread k)
+unread_cause bytes fault.NoPreamble f n = (n, f, λ e. cc)
+unread_cause bytes (fault.BadId at) f n = (n, f, λ e. cc)
+unread_cause bytes fault.NoTrailer f n = (n, f, λ e. cc)
+unread_cause bytes (fault.BadPostPointer at) f n = (n, f, λ e. cc)
+unread_cause bytes (fault.BadBackPointer at) f n = (n, f, λ e. cc)
+unread_cause bytes (fault.BadOrder at) f n = (n, f, λ e. cc)
+unread_cause bytes (fault.Undefined at) f n = (n, f, λ e. cc)
+unread_cause bytes (fault.Short at) f n = (n, f, λ e. cc)
+unread_cause bytes (fault.FontTwice k) f n = (n, f, λ e. cc)
+unread_cause bytes (fault.FontDiffers k) f n = (n, f, λ e. cc)
+unread_cause bytes (fault.BadName k) f n = (n, f, λ e. cc)
+unread_cause bytes (fault.BadSize k) f n = (n, f, λ e. cc)
+unread_cause bytes (fault.PageCount found told) f n = (n, f, λ e. cc)
+unread_cause bytes fault.PostDiffers f n = (n, f, λ e. cc)
+unread_cause bytes fault.OutOfMemory f n = tt
 
 abbrev pub units_with : ℤ → ℤ → ℤ → ℤ → Units
 units_with num den mag dpi = record { num = num; den = den; mag = mag; dpi = dpi }
@@ -145,6 +147,10 @@ good_setup job pages s few good is =
       copies_few = omega (arith, is.copies);
     }
 
+each_as : {X : Type 0} (P Q : X → Type 0) → ((x : X) → P x → Q x) → (xs : List X) → Each P xs → Each Q xs
+each_as P Q f [] h = tt
+each_as P Q f (x ∷ xs) h = (f x h.0, each_as P Q f xs h.1)
+
 -- a document that was read of these bytes
 abbrev pub ReadOf : List ℕ → ReadDoc → Type 0
 ReadOf bytes r = (r.bytes ≡ bytes) × IsRead r
@@ -196,7 +202,7 @@ known_at job bytes r g s d short good same is set at usable each =
     let all : Each (IsReady (grid_of d job.dpi)) d.pages = subst (λ (x : Grid). Each (IsReady x) d.pages) at each in
     let made : ArePrinted (grid_of d job.dpi) 1 d.pages = all_printed (grid_of d job.dpi) 1 d.pages (omega (arith, few, short)) all in
     record {
-      print = record { doc = d; is = here; usable = usable; pages = made.pages; printed = made.printed; setup = s; asked = set };
+      print = record { doc = d; is = here; usable = usable; pages = made.pages; printed = made.printed; shallow = each_as (IsReady (grid_of d job.dpi)) (λ p. IsShallow (grid_of d job.dpi) p.commands) (λ p r. r.shallow) d.pages all; setup = s; asked = set };
       is = is;
       setup = refl;
       printed = subst (λ (x : Grid). printed_from x 1 d.pages ≡ Some made.pages) (sym at) made.printed;
@@ -231,4 +237,20 @@ prints_front shows job bytes name r g s a b c k named f messages writes =
     let cut : Cut (text_for k.print) b c =
     subst (λ (x : Setup). Cut (rules.text_of (text_of_job true x k.print.pages)) b c) (sym k.setup) (writes k.print.doc k.is k.print.pages k.printed) in
     let front = began_front name (text_for k.print) (owed_for k.print) a b c (shows true k.print.setup k.print.pages k.setup_good k.pages_good) f messages cut in
-    (rose_later name (text_for k.print) a b c f cut, inr (k.print, front.0, subst (λ (n : List ℕ). Began n front.0.written a c) named front.1))
+    (rose_later name (text_for k.print) a b c f cut, k.print, inr (front.0, subst (λ (n : List ℕ). Began n front.0.written a c) named front.1))
+
+-- nothing was begun, since the tray failed
+pub prints_none : (job : Job) (bytes name : List ℕ) (r : ReadDoc) (g : Grid) (s : Setup) (a b : Seen) → Known job bytes r g s → BeginGives name begun.Failed a b → b.messages ≡ a.messages → Prints job bytes a b outcome.WriteFault
+prints_none job bytes name r g s a b k f messages =
+    (f.0, k.print, inl (record { outputs_same = f.1; begun_same = f.2; last_same = f.3; messages_same = messages }))
+
+-- no write takes a fault back
+pub done_later : (job : Job) (bytes : List ℕ) (r : ReadDoc) (g : Grid) (s : Setup) (b c : Seen) → Known job bytes r g s
+    → ((d : Document) → IsDoc r.bytes d → (pages : List RulePage) → printed_from g 1 d.pages ≡ Some pages → Wrote (rules.text_of (text_of_job true s pages)) b c)
+    → b.faults ≤ c.faults
+done_later job bytes r g s b c k writes = (writes k.print.doc k.is k.print.pages k.printed).keeps.later
+
+pub front_later : (job : Job) (bytes : List ℕ) (r : ReadDoc) (g : Grid) (s : Setup) (b c : Seen) → Known job bytes r g s
+    → ((d : Document) → IsDoc r.bytes d → (pages : List RulePage) → printed_from g 1 d.pages ≡ Some pages → Cut (rules.text_of (text_of_job true s pages)) b c)
+    → b.faults ≤ c.faults
+front_later job bytes r g s b c k writes = (writes k.print.doc k.is k.print.pages k.printed).keeps.later

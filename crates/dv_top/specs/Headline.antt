@@ -11,9 +11,11 @@ use Rattle.dv_top.specs.Job.{Job, job_of}
 use Rattle.dv_top.specs.Language.{IsWrongAt}
 use Rattle.dv_top.specs.Message.{message_of}
 use Rattle.dv_top.specs.Pages.{IsBarePage}
-use Rattle.dv_top.specs.Printing.{grid_of, units_of}
+use Rattle.dv_top.specs.Printing.{grid_of, printed_of, units_of}
 use Rattle.dv_top.specs.Reading.{IsReadCause}
-use Rattle.dv_top.specs.Runs.{BeganNone, InSomePage, Prints}
+use Rattle.dv_top.specs.Runs.{BeganNone, Prints}
+use Rattle.ps_emit.specs.PagesText.{RulePage}
+use Rattle.vf_expand.specs.Shallow.{IsShallow}
 use Rattle.dv_top.specs.Words.{Accepted}
 use Rattle.dv_top.specs.declared.outcome.Outcome.{Outcome}
 use Rattle.dv_top.specs.declared.outcome.Outcome.TheVariants as outcome
@@ -47,8 +49,8 @@ SaysLine (Some text) old new = Says text old new
 abbrev pub Runs : List (List ℕ) → Told → Told → Seen → Seen → Outcome → Type 0
 Runs words told later old new o = (between : Seen) × WordsLeave words told later old between o × SaysLine (message_of o) between new
 
--- A job whose input is known to be printable: it is held, it is a document without characters, its units are usable, and no page has
--- a fault.
+-- A job whose input is known to be printable: it is held, it is a document without characters, its units are usable, the marks of
+-- all its pages are defined, and no push in them is too deep.
 pub record Plain (job : Job) (told : Told) : Type 0 where
   pub contents : Contents
   pub tells : told.held ≡ Some contents
@@ -59,7 +61,9 @@ pub record Plain (job : Job) (told : Told) : Type 0 where
   pub is : IsDoc bytes doc
   pub bare : Each IsBarePage doc.pages
   pub usable : IsUsable (units_of doc job.dpi)
-  pub sound : (o : Outcome) → InSomePage (grid_of doc job.dpi) doc.pages o → ⊥
+  pub pages : List RulePage
+  pub printed : printed_of doc job.dpi ≡ Some pages
+  pub shallow : Each (λ p. IsShallow (grid_of doc job.dpi) p.commands) doc.pages
 
 -- all went well, or memory was refused
 abbrev pub IsDoneOrRefused : Outcome → Type 0

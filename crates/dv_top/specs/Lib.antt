@@ -11,3 +11,5 @@ pub mod Runs
 pub mod Coming
 pub mod Each
 pub mod Headline
+pub mod Unread
+pub mod Writing

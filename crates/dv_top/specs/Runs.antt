@@ -8,12 +8,15 @@ use Rattle.dv_base.specs.declared.font_id.Spot.TheVariants as spot
 use Rattle.dv_base.specs.declared.site.Site.{Site}
 use Rattle.dv_base.specs.declared.site.Site.TheVariants as site
 use Rattle.std.specs.List.{Contains}
-use Rattle.vf_expand.specs.Causes.{IsDeep, IsUnder, Moment, Passes}
+use Rattle.positions.specs.declared.canvas.NoFault.{NoFault}
+use Rattle.vf_expand.specs.Causes.{IsCause}
 use Rattle.vf_expand.specs.Grid.{Grid}
-use Rattle.vf_expand.specs.Turn.{Standing, left_by}
+use Rattle.vf_expand.specs.Shallow.{IsShallow}
+use Rattle.vf_expand.specs.declared.fault.WalkFault.TheVariants as fault
+use Rattle.dv_top.specs.Each.{Each}
 use Rattle.dvi_doc.specs.Document.{Document, PageOf}
 use Rattle.dvi_doc.specs.Faults.{FaultIn}
-use Rattle.dvi_doc.specs.declared.fault.DocFault.TheVariants as fault
+use Rattle.dvi_doc.specs.declared.fault.DocFault.TheVariants as kinds
 use Rattle.dvi_doc.specs.Grammar.{IsDoc, NoDoc}
 use Rattle.ps_subset.specs.Printout as rules
 use Rattle.ps_subset.specs.Run.{events}
@@ -35,6 +38,7 @@ pub record Printable (job : Job) (bytes : List ℕ) : Type 0 where
   pub usable : IsUsable (units_of doc job.dpi)
   pub pages : List RulePage
   pub printed : printed_of doc job.dpi ≡ Some pages
+  pub shallow : Each (λ p. IsShallow (grid_of doc job.dpi) p.commands) doc.pages
   pub setup : Setup
   pub asked : IsSetupOf job (length doc.pages) setup
 
@@ -90,12 +94,12 @@ SamePlace (spot.Page at) (site.Page place) = at ≡ place
 SamePlace (spot.Page at) (site.Packet font code place) = ⊥
 SamePlace (spot.Packet font code at) s = ⊥
 
--- why a page can't be printed, judged by what the commands before that place leave
+-- why a page can't be printed: why a walk over its commands stops there
 abbrev pub IsPageCause : Grid → PageOf → Outcome → Type 0
-IsPageCause g p (outcome.StackUnder s) = AtPage s (λ at. (m : Moment g p.commands at) × IsUnder m.command m.pushes)
-IsPageCause g p (outcome.StackLeft s) = AtPage s (λ at. (at ≡ p.eop) × (a : Standing) × (left_by g p.commands ≡ Some a) × (0 < length a.pushes))
-IsPageCause g p (outcome.StackDeep s) = AtPage s (λ at. (m : Moment g p.commands at) × IsDeep m.command m.pushes)
-IsPageCause g p (outcome.Overflow s) = AtPage s (λ at. (m : Moment g p.commands at) × Passes m.command m.state.place)
+IsPageCause g p (outcome.StackUnder s) = AtPage s (λ at. IsCause {F = NoFault} g p.commands p.eop (fault.StackUnder (spot.Page at)))
+IsPageCause g p (outcome.StackLeft s) = AtPage s (λ at. IsCause {F = NoFault} g p.commands p.eop (fault.StackLeft (spot.Page at)))
+IsPageCause g p (outcome.StackDeep s) = AtPage s (λ at. IsCause {F = NoFault} g p.commands p.eop (fault.StackDeep (spot.Page at)))
+IsPageCause g p (outcome.Overflow s) = AtPage s (λ at. IsCause {F = NoFault} g p.commands p.eop (fault.Overflow (spot.Page at)))
 IsPageCause g p _ = ⊥
 
 abbrev pub InSomePage : Grid → List PageOf → Outcome → Type 0
@@ -103,7 +107,7 @@ InSomePage g pages o = (p : PageOf) × Contains pages p × IsPageCause g p o
 
 -- Why bytes aren't read as a document. Want of memory is an outcome of its own, and no fault of the bytes.
 abbrev pub IsReadingCause : List ℕ → Outcome → Type 0
-IsReadingCause bytes (outcome.BadDvi kind) = NoDoc bytes × FaultIn bytes kind × (kind ≡ fault.OutOfMemory → ⊥)
+IsReadingCause bytes (outcome.BadDvi kind) = NoDoc bytes × FaultIn bytes kind × (kind ≡ kinds.OutOfMemory → ⊥)
 IsReadingCause bytes outcome.OutOfMemory = Unit {0}
 IsReadingCause bytes _ = ⊥
 
@@ -131,6 +135,6 @@ Prints job bytes old new outcome.Done =
     (p : Printable job bytes) × (events (text_for p) ≡ Some (owed_for p)) × Began job.output (text_for p) old new
 Prints job bytes old new outcome.WriteFault =
     Rose old.faults new.faults
-    × (BeganNone old new ⊎ ((p : Printable job bytes) × (f : Front (text_for p) (owed_for p)) × Began job.output f.written old new))
+    × (p : Printable job bytes) × (BeganNone old new ⊎ ((f : Front (text_for p) (owed_for p)) × Began job.output f.written old new))
 Prints job bytes old new outcome.OutOfMemory = BeganNone old new
 Prints job bytes old new o = BeganNone old new × IsRefusalOf job bytes o

@@ -3,32 +3,22 @@ ghost use Rattle.std.specs.Prelude.{◌≡◌, ◌≤◌, ◌+◌, ◌++◌, ◌
 ghost use Rattle.std.specs.Option.{option_map};
 ghost use Rattle.std.specs.Fmt.{signed_decimal};
 ghost use Rattle.dv_base.specs.FileName.{text_of};
-ghost use Rattle.dv_top.specs.Message.{fault_text, message_of, outcome_text, site_text, units_text};
+ghost use Rattle.dv_top.specs.Message.{fault_text, message_of, named as named_with, outcome_text, site_text, units_text};
 
 use crate::outcome::Outcome;
 use dv_base::{FileName, Line, Site, Units};
 use dvi_doc::DocFault;
+use itoa::Integer;
 
 /// Appends a name with a number behind it.
-fn number(line: &mut Line, name: &[u8], number: i64)
+fn named<I: Integer>(line: &mut Line, name: &[u8], number: I)
     requires { length line.old + length name.now + 41 ≤ 1024 }
-    ensures value { line.new ≡ line.old ++ (name.now ++ 32 ∷ signed_decimal number) }
+    ensures value { line.new ≡ line.old ++ (name.now ++ 32 ∷ I.text number) }
     ensures len { length line.new ≤ length line.old + length name.now + 41 }
 {
     line.text(name);
     line.text(b" ");
     line.number(number);
-}
-
-/// Appends a name with a place behind it.
-fn place(line: &mut Line, name: &[u8], place: u32)
-    requires { length line.old + length name.now + 41 ≤ 1024 }
-    ensures value { line.new ≡ line.old ++ (name.now ++ 32 ∷ decimal place) }
-    ensures len { length line.new ≤ length line.old + length name.now + 41 }
-{
-    line.text(name);
-    line.text(b" ");
-    line.number(place);
 }
 
 /// Appends the words of a fault.
@@ -38,17 +28,17 @@ fn fault(line: &mut Line, kind: DocFault)
 {
     match kind {
         DocFault::NoPreamble => line.text(b"NoPreamble"),
-        DocFault::BadId { at } => place(line, b"BadId", at),
+        DocFault::BadId { at } => named(line, b"BadId", at),
         DocFault::NoTrailer => line.text(b"NoTrailer"),
-        DocFault::BadPostPointer { at } => place(line, b"BadPostPointer", at),
-        DocFault::BadBackPointer { at } => place(line, b"BadBackPointer", at),
-        DocFault::BadOrder { at } => place(line, b"BadOrder", at),
-        DocFault::Undefined { at } => place(line, b"Undefined", at),
-        DocFault::Short { at } => place(line, b"Short", at),
-        DocFault::FontTwice { k } => number(line, b"FontTwice", k),
-        DocFault::FontDiffers { k } => number(line, b"FontDiffers", k),
-        DocFault::BadName { k } => number(line, b"BadName", k),
-        DocFault::BadSize { k } => number(line, b"BadSize", k),
+        DocFault::BadPostPointer { at } => named(line, b"BadPostPointer", at),
+        DocFault::BadBackPointer { at } => named(line, b"BadBackPointer", at),
+        DocFault::BadOrder { at } => named(line, b"BadOrder", at),
+        DocFault::Undefined { at } => named(line, b"Undefined", at),
+        DocFault::Short { at } => named(line, b"Short", at),
+        DocFault::FontTwice { k } => named(line, b"FontTwice", k),
+        DocFault::FontDiffers { k } => named(line, b"FontDiffers", k),
+        DocFault::BadName { k } => named(line, b"BadName", k),
+        DocFault::BadSize { k } => named(line, b"BadSize", k),
         DocFault::PageCount { found, told } => {
             line.text(b"PageCount ");
             line.field(found);
@@ -59,15 +49,16 @@ fn fault(line: &mut Line, kind: DocFault)
     }
 }
 
-/// Appends a place.
-fn spot(line: &mut Line, spot: &Site)
-    requires { length line.old ≤ 100 }
-    ensures { line.new ≡ line.old ++ site_text spot.now }
+/// Appends a name with a site behind it.
+fn site(line: &mut Line, name: &[u8], site: &Site)
+    requires { length line.old + length name.now ≤ 100 }
+    ensures { line.new ≡ line.old ++ named_with name.now (site_text site.now) }
 {
-    match spot {
-        Site::Page { at } => place(line, b"page", *at),
+    line.text(name);
+    match site {
+        Site::Page { at } => named(line, b" page", *at),
         Site::Packet { font, code, at } => {
-            line.text(b"packet ");
+            line.text(b" packet ");
             line.text(font.as_str().as_bytes());
             line.text(b" ");
             line.field(*code);
@@ -76,75 +67,64 @@ fn spot(line: &mut Line, spot: &Site)
     }
 }
 
-/// Appends the four numbers of units.
-fn four(line: &mut Line, units: &Units)
-    requires { length line.old ≤ 100 }
-    ensures { line.new ≡ line.old ++ units_text units.now }
+/// Appends a name with the four numbers of units behind it.
+fn four(line: &mut Line, name: &[u8], units: &Units)
+    requires { length line.old + length name.now ≤ 100 }
+    ensures { line.new ≡ line.old ++ named_with name.now (units_text units.now) }
 {
+    line.text(name);
+    line.text(b" ");
     line.field(units.num);
     line.field(units.den);
     line.field(units.mag);
     line.number(units.dpi);
 }
 
-/// Appends a name of a file.
-fn file(line: &mut Line, name: &FileName)
-    requires { length line.old ≤ 100 }
-    ensures { line.new ≡ line.old ++ text_of name.now }
+/// Appends a name with the name of a file behind it.
+fn file(line: &mut Line, name: &[u8], file: &FileName)
+    requires { length line.old + length name.now ≤ 100 }
+    ensures { line.new ≡ line.old ++ named_with name.now (text_of file.now) }
 {
-    line.text(name.as_str().as_bytes());
+    line.text(name);
+    line.text(b" ");
+    line.text(file.as_str().as_bytes());
+}
+
+/// Appends what is said of an outcome: its name, and each of its fields behind a space.
+fn words(line: &mut Line, outcome: &Outcome)
+    requires { length line.old ≤ 80 }
+    ensures { IfSome (outcome_text outcome.now) (λ text. line.new ≡ line.old ++ text) }
+{
+    match outcome {
+        Outcome::Done => {}
+        Outcome::NotBuilt { at } => named(line, b"NotBuilt", *at),
+        Outcome::BadDvi { kind } => {
+            line.text(b"BadDvi ");
+            fault(line, *kind);
+        }
+        Outcome::Missing { name } => file(line, b"Missing", name),
+        Outcome::FileTooLong { name } => file(line, b"FileTooLong", name),
+        Outcome::StackUnder { spot } => site(line, b"StackUnder", spot),
+        Outcome::StackLeft { spot } => site(line, b"StackLeft", spot),
+        Outcome::StackDeep { spot } => site(line, b"StackDeep", spot),
+        Outcome::Overflow { spot } => site(line, b"Overflow", spot),
+        Outcome::BadConv { units } => four(line, b"BadConv", units),
+        Outcome::BadWords { index } => named(line, b"BadWords", *index),
+        Outcome::ReadFault { name } => file(line, b"ReadFault", name),
+        Outcome::WriteFault => line.text(b"WriteFault"),
+        Outcome::OutOfMemory => line.text(b"OutOfMemory"),
+    }
 }
 
 /// The line that is said of an outcome, if one is.
 pub fn message(outcome: &Outcome) -> Option<Line>
     ensures { result ≡ message_of outcome.now }
 {
-    let mut line = Line::new();
-    match outcome {
-        Outcome::Done => return None,
-        Outcome::NotBuilt { at } => place(&mut line, b"texdvi: NotBuilt", *at),
-        Outcome::BadDvi { kind } => {
-            line.text(b"texdvi: BadDvi ");
-            fault(&mut line, *kind);
-        }
-        Outcome::Missing { name } => {
-            line.text(b"texdvi: Missing ");
-            file(&mut line, name);
-        }
-        Outcome::FileTooLong { name } => {
-            line.text(b"texdvi: FileTooLong ");
-            file(&mut line, name);
-        }
-        Outcome::StackUnder { spot: at } => {
-            line.text(b"texdvi: StackUnder ");
-            spot(&mut line, at);
-        }
-        Outcome::StackLeft { spot: at } => {
-            line.text(b"texdvi: StackLeft ");
-            spot(&mut line, at);
-        }
-        Outcome::StackDeep { spot: at } => {
-            line.text(b"texdvi: StackDeep ");
-            spot(&mut line, at);
-        }
-        Outcome::Overflow { spot: at } => {
-            line.text(b"texdvi: Overflow ");
-            spot(&mut line, at);
-        }
-        Outcome::BadConv { units } => {
-            line.text(b"texdvi: BadConv ");
-            four(&mut line, units);
-        }
-        Outcome::BadWords { index } => {
-            line.text(b"texdvi: BadWords ");
-            line.number(*index);
-        }
-        Outcome::ReadFault { name } => {
-            line.text(b"texdvi: ReadFault ");
-            file(&mut line, name);
-        }
-        Outcome::WriteFault => line.text(b"texdvi: WriteFault"),
-        Outcome::OutOfMemory => line.text(b"texdvi: OutOfMemory"),
+    if let Outcome::Done = outcome {
+        return None;
     }
+    let mut line = Line::new();
+    line.text(b"texdvi: ");
+    words(&mut line, outcome);
     Some(line)
 }

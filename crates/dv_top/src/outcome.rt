@@ -1,9 +1,12 @@
 //! How a run ends.
 ghost use Rattle.std.specs.Prelude.{◌≡◌};
 ghost use Rattle.dv_top.specs.Status.{status_of};
+ghost use Rattle.dv_top.specs.Unread.{unread};
+ghost use Rattle.dv_top.specs.declared.outcome.Outcome.TheVariants as variant;
 
-use dv_base::{FileName, Site, Units};
+use dv_base::{FileName, Site, Units, WriteFault};
 use dvi_doc::DocFault;
+use std::alloc::AllocError;
 
 /// How a run ended.
 #[derive(Clone, Copy, Drop)]
@@ -51,6 +54,33 @@ impl Outcome {
             Outcome::WriteFault => 4,
             Outcome::OutOfMemory => 5,
             _ => 1,
+        }
+    }
+}
+
+impl From<AllocError> for Outcome {
+    ghost from_gives = { λ _ outcome. outcome ≡ variant.OutOfMemory };
+
+    fn from(_: AllocError) -> Outcome {
+        Outcome::OutOfMemory
+    }
+}
+
+impl From<WriteFault> for Outcome {
+    ghost from_gives = { λ _ outcome. outcome ≡ variant.WriteFault };
+
+    fn from(_: WriteFault) -> Outcome {
+        Outcome::WriteFault
+    }
+}
+
+impl From<DocFault> for Outcome {
+    ghost from_gives = { λ kind outcome. outcome ≡ unread kind };
+
+    fn from(kind: DocFault) -> Outcome {
+        match kind {
+            DocFault::OutOfMemory => Outcome::OutOfMemory,
+            kind => Outcome::BadDvi { kind },
         }
     }
 }

@@ -13,13 +13,14 @@ ghost use Rattle.dv_top.specs.JobView.{job_view};
 ghost use Rattle.dv_top.specs.Pages.{IsBarePage, IsReady};
 ghost use Rattle.dv_top.specs.Printing.{IsGoodJob, IsSetupOf, grid_of, printed_from, units_of};
 ghost use Rattle.dv_top.specs.Runs.{IsPrepareCause, IsReadingCause, IsUnusable, Prints};
+ghost use Rattle.dv_top.specs.Writing.{IsWritable};
 
 use crate::check::{check_pages, find_unbuilt};
 use crate::outcome::Outcome;
 use crate::words::Job;
 use crate::write::write_text;
 use dv_base::{Begun, Conv, Tray, Units, WriteFault};
-use dvi_doc::{Doc, DocFault, one_document};
+use dvi_doc::{Doc, one_document};
 use ps_emit::laws::{calls_make_text, cut_text_shows, text_shows};
 use ps_emit::{Emitter, Setup};
 use std::alloc::Global;
@@ -36,11 +37,7 @@ fn read_document<'a>(alloc: Global, bytes: &'a [u8]) -> Result<Doc<'a>, Outcome>
     ensures found { IfOk result (λ doc. (doc.bytes ≡ bytes.now) × IsRead doc) }
     ensures cause { IfErr result (IsReadingCause bytes.now) }
 {
-    match Doc::read(alloc, bytes) {
-        Ok(doc) => Ok(doc),
-        Err(DocFault::OutOfMemory) => Err(Outcome::OutOfMemory),
-        Err(kind) => Err(Outcome::BadDvi { kind }),
-    }
+    Ok(Doc::read(alloc, bytes)?)
 }
 
 /// What turns the document's units into pixels.
@@ -76,13 +73,9 @@ fn prepare(alloc: Global, doc: &Doc<'_>, dpi: u32) -> Result<Walker, Outcome>
         return Err(Outcome::NotBuilt { at });
     }
     let conv = conversion(doc, dpi)?;
-    match Walker::new(alloc, conv, DRIFT) {
-        Ok(mut walker) => {
-            check_pages(doc, &mut walker)?;
-            Ok(walker)
-        }
-        Err(_) => Err(Outcome::OutOfMemory),
-    }
+    let mut walker = Walker::new(alloc, conv, DRIFT)?;
+    check_pages(doc, &mut walker)?;
+    Ok(walker)
 }
 
 /// The setup of a job whose document has so many pages.
@@ -107,11 +100,7 @@ fn write_output<T: Tray>(
     setup: &Setup,
     walker: &mut Walker,
 ) -> Result<(), WriteFault>
-    requires read { IsRead doc.now }
-    requires short { length doc.now.bytes ≤ 1000000 }
-    requires many { length doc.now.pages < 2 ^ 31 }
-    requires begun { 0 < (T.seen tray.old).begun }
-    requires ready { (d : Document) → IsDoc doc.now.bytes d → Each (IsReady walker.old) d.pages }
+    requires { IsWritable doc.now walker.old (T.seen tray.old) }
     ensures writes { (d : Document) → IsDoc doc.now.bytes d → (pages : List RulePage) → printed_from walker.old 1 d.pages ≡ Some pages
         → Writes (rules.text_of (text_of_job true setup.now pages)) (T.seen tray.old) (T.seen tray.new) result }
 {
@@ -132,6 +121,7 @@ pub fn print_bytes<T: Tray>(
     ensures done { OnOk result (Prints (job_view job.now) bytes.now (T.seen tray.old) (T.seen tray.new) Outcome.Done) }
     ensures refused { IfErr result (Prints (job_view job.now) bytes.now (T.seen tray.old) (T.seen tray.new)) }
     ensures undone { IfErr result (λ o. o ≡ Outcome.Done → ⊥) }
+    ensures later { (T.seen tray.old).faults ≤ (T.seen tray.new).faults }
 {
     one_document();
     text_shows();
@@ -140,10 +130,7 @@ pub fn print_bytes<T: Tray>(
     let mut walker = prepare(alloc, &doc, job.dpi)?;
     let setup = setup(job, doc.pages().len() as u32);
     match tray.begin(alloc, job.output.as_str()) {
-        Begun::Ready => match write_output(tray, &doc, &setup, &mut walker) {
-            Ok(()) => Ok(()),
-            Err(_) => Err(Outcome::WriteFault),
-        },
+        Begun::Ready => Ok(write_output(tray, &doc, &setup, &mut walker)?),
         Begun::Failed => Err(Outcome::WriteFault),
         Begun::OutOfMemory => Err(Outcome::OutOfMemory),
     }

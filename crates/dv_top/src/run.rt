@@ -1,7 +1,8 @@
 //! The one call of the program.
-ghost use Rattle.std.specs.Prelude.{◌≡◌, map};
+ghost use Rattle.std.specs.Prelude.{◌≡◌, ◌≤◌, map};
 ghost use Rattle.std.specs.String.{string_bytes};
 ghost use Rattle.dv_top.specs.Headline.{IsComplete, Leaves, Runs, SaysLine, WordsLeave};
+ghost use Rattle.dv_base.specs.Shelf.{Keeps};
 ghost use Rattle.dv_top.specs.JobView.{job_view};
 ghost use Rattle.dv_top.specs.Message.{message_of};
 ghost use Rattle.dv_top.specs.Printing.{IsGoodJob};
@@ -17,7 +18,9 @@ use std::alloc::Global;
 /// Reads the input of a job and prints it.
 fn run_job<S: Shelf, T: Tray>(alloc: Global, job: &Job, shelf: &mut S, tray: &mut T) -> Outcome
     requires { IsGoodJob (job_view job.now) }
-    ensures { Leaves (job_view job.now) (S.told shelf.old) (S.told shelf.new) (T.seen tray.old) (T.seen tray.new) result }
+    ensures leaves { Leaves (job_view job.now) (S.told shelf.old) (S.told shelf.new) (T.seen tray.old) (T.seen tray.new) result }
+    ensures kept { Keeps (S.told shelf.old) (S.told shelf.new) }
+    ensures later { (T.seen tray.old).faults ≤ (T.seen tray.new).faults }
 {
     match read_input(alloc, &job.input, shelf) {
         Ok(bytes) => match print_bytes(alloc, job, &bytes, tray) {
@@ -35,7 +38,9 @@ fn run_words<S: Shelf, T: Tray>(
     shelf: &mut S,
     tray: &mut T,
 ) -> Outcome
-    ensures { WordsLeave (map string_bytes words.now) (S.told shelf.old) (S.told shelf.new) (T.seen tray.old) (T.seen tray.new) result }
+    ensures leaves { WordsLeave (map string_bytes words.now) (S.told shelf.old) (S.told shelf.new) (T.seen tray.old) (T.seen tray.new) result }
+    ensures kept { Keeps (S.told shelf.old) (S.told shelf.new) }
+    ensures later { (T.seen tray.old).faults ≤ (T.seen tray.new).faults }
 {
     match read_words(words) {
         Ok(job) => run_job(alloc, &job, shelf, tray),
@@ -63,6 +68,8 @@ pub fn run_tool<S: Shelf, T: Tray>(
     tray: &mut T,
 ) -> Outcome
     ensures run { Runs (map string_bytes words.now) (S.told shelf.old) (S.told shelf.new) (T.seen tray.old) (T.seen tray.new) result }
+    ensures kept { Keeps (S.told shelf.old) (S.told shelf.new) }
+    ensures later { (T.seen tray.old).faults ≤ (T.seen tray.new).faults }
     ensures complete { IsComplete (map string_bytes words.now) (S.told shelf.old) (S.told shelf.new) (T.seen tray.old) (T.seen tray.new) result }
 {
     let outcome = run_words(alloc, words, shelf, tray);

@@ -10,6 +10,7 @@ ghost use Rattle.ps_emit.specs.Shown.{comments_of, loan_of, tray_of};
 ghost use Rattle.ps_emit.specs.Written.{Writes};
 ghost use Rattle.dv_top.specs.Pages.{IsReady};
 ghost use Rattle.dv_top.specs.Printing.{printed_from, with_marks};
+ghost use Rattle.dv_top.specs.Writing.{IsWritable};
 
 use crate::body::page_body;
 use dv_base::{Tray, WriteFault};
@@ -37,12 +38,8 @@ fn write_page<T: Tray>(
     walker: &mut Walker,
     emitter: &mut Emitter<'_, T>,
 ) -> Result<(), WriteFault>
-    requires read { IsRead doc.now }
-    requires short { length doc.now.bytes < 2 ^ 31 }
+    requires writable { IsWritable doc.now walker.old (T.seen (tray_of emitter.old)) }
     requires page { page < length doc.now.pages }
-    requires many { length doc.now.pages < 2 ^ 31 }
-    requires begun { 0 < (T.seen (tray_of emitter.old)).begun }
-    requires ready { (d : Document) → IsDoc doc.now.bytes d → Each (IsReady walker.old) d.pages }
     ensures writes { (d : Document) → IsDoc doc.now.bytes d → (p : PageOf) → slice_get d.pages page ≡ Some p → (r : IsReady walker.old p)
         → Writes (page_calls (comments_of emitter.old) (with_marks p (page + 1) r.marks)) (T.seen (tray_of emitter.old)) (T.seen (tray_of emitter.new)) result }
     ensures comments { comments_of emitter.new ≡ comments_of emitter.old }
@@ -63,11 +60,7 @@ fn write_pages<T: Tray>(
     walker: &mut Walker,
     emitter: &mut Emitter<'_, T>,
 ) -> Result<(), WriteFault>
-    requires read { IsRead doc.now }
-    requires short { length doc.now.bytes < 2 ^ 31 }
-    requires many { length doc.now.pages < 2 ^ 31 }
-    requires begun { 0 < (T.seen (tray_of emitter.old)).begun }
-    requires ready { (d : Document) → IsDoc doc.now.bytes d → Each (IsReady walker.old) d.pages }
+    requires writable { IsWritable doc.now walker.old (T.seen (tray_of emitter.old)) }
     ensures writes { (d : Document) → IsDoc doc.now.bytes d → (pages : List RulePage) → printed_from walker.old 1 d.pages ≡ Some pages
         → Writes (pages_calls (comments_of emitter.old) pages) (T.seen (tray_of emitter.old)) (T.seen (tray_of emitter.new)) result }
     ensures comments { comments_of emitter.new ≡ comments_of emitter.old }
@@ -86,11 +79,7 @@ fn write_section<T: Tray>(
     walker: &mut Walker,
     emitter: &mut Emitter<'_, T>,
 ) -> Result<(), WriteFault>
-    requires read { IsRead doc.now }
-    requires short { length doc.now.bytes < 2 ^ 31 }
-    requires many { length doc.now.pages < 2 ^ 31 }
-    requires begun { 0 < (T.seen (tray_of emitter.old)).begun }
-    requires ready { (d : Document) → IsDoc doc.now.bytes d → Each (IsReady walker.old) d.pages }
+    requires writable { IsWritable doc.now walker.old (T.seen (tray_of emitter.old)) }
     ensures writes { (d : Document) → IsDoc doc.now.bytes d → (pages : List RulePage) → printed_from walker.old 1 d.pages ≡ Some pages
         → Writes (sections_of (comments_of emitter.old) pages) (T.seen (tray_of emitter.old)) (T.seen (tray_of emitter.new)) result }
     ensures comments { comments_of emitter.new ≡ comments_of emitter.old }
@@ -112,11 +101,7 @@ pub fn write_text<T: Tray>(
     walker: &mut Walker,
     emitter: &mut Emitter<'_, T>,
 ) -> Result<(), WriteFault>
-    requires read { IsRead doc.now }
-    requires short { length doc.now.bytes < 2 ^ 31 }
-    requires many { length doc.now.pages < 2 ^ 31 }
-    requires begun { 0 < (T.seen (tray_of emitter.old)).begun }
-    requires ready { (d : Document) → IsDoc doc.now.bytes d → Each (IsReady walker.old) d.pages }
+    requires writable { IsWritable doc.now walker.old (T.seen (tray_of emitter.old)) }
     ensures writes { (d : Document) → IsDoc doc.now.bytes d → (pages : List RulePage) → printed_from walker.old 1 d.pages ≡ Some pages
         → Writes (prologue_of (comments_of emitter.old) setup.now [] ++ (sections_of (comments_of emitter.old) pages ++ trailer_of (comments_of emitter.old)))
         (T.seen (tray_of emitter.old)) (T.seen (tray_of emitter.new)) result }

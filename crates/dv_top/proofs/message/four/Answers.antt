@@ -14,6 +14,8 @@ returns c =
       c.field-3.ensures.value,
       c.field-2.ensures.value,
       c.field.ensures.value,
+      c.text-2.ensures.value,
+      c.text.ensures.value,
       to_z-of_z w64 c.args.units.now.num num,
       to_z-of_z w64 c.args.units.now.den den,
       to_z-of_z w64 c.args.units.now.mag mag,

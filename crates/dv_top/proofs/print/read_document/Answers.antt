@@ -1,9 +1,8 @@
-use Rattle.std.proofs.Common.{rules, ◌≡◌}
-use Rattle.dvi_doc.specs.declared.fault.DocFault.TheVariants as fault
-use Rattle.dv_top.proofs.Printed.{none_but}
+use Rattle.std.proofs.lemmas.Result.{err_from_is_err_and}
+use Rattle.dv_top.proofs.Printed.{unread_cause}
 use Rattle.dv_top.proofs.print.read_document.Goals as goal
 
-pub returns-in-Err : goal.returns-in-Err
-returns-in-Err c =
-    let other : c.in-Err.kind ≡ fault.OutOfMemory → ⊥ = search rules in
-    record { found = tt; cause = (none_but _ c.in-Err.kind other c.in-Err.ensures.none, c.in-Err.ensures.fault, other) }
+pub returns-in_err-read-clause-cause : goal.returns-in_err-read-clause-cause
+returns-in_err-read-clause-cause c =
+    let p = err_from_is_err_and c.from_residual.result c.from_residual.ensures.1 in
+    rw (p.1, p.2) (unread_cause c.args.bytes.now c.in_err-read.field-0.0 c.in_err-read.ensures.fault c.in_err-read.ensures.none)

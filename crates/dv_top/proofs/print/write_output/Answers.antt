@@ -3,6 +3,19 @@ use Rattle.ps_emit.specs.Shown.{comments_of, tray_of}
 use Rattle.dv_top.proofs.Printed.{text_made}
 use Rattle.dv_top.proofs.print.write_output.Goals as goal
 
+pub write_text-requires : goal.write_text-requires
+write_text-requires g c =
+    record {
+      writable =
+          record {
+            read = c.requires.read;
+            short = c.requires.short;
+            many = c.requires.many;
+            ready = c.requires.ready;
+            begun = rw c.new-emitter.ensures.tray c.requires.begun;
+          };
+    }
+
 pub returns : goal.returns
 returns g c =
     let seen = g.T.Tray.seen in

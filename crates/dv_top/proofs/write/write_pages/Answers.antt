@@ -14,22 +14,29 @@ loop-page-init g c =
       kept = refl;
       comments = refl;
       loan = refl;
-      begun = c.requires.begun;
+      begun = c.requires.writable.begun;
       wrote = λ d is pages e. before_first c.args.walker.now d.pages pages (comments_of c.args.emitter.now) (g.T.Tray.seen (tray_of c.args.emitter.now)) e;
     }
 
-pub write_page-requires-clause-ready : goal.write_page-requires-clause-ready
-write_page-requires-clause-ready g c = λ d is. subst (λ (w : Grid). Each (IsReady w) d.pages) (sym c.loop-page.invariant.kept) (c.requires.ready d is)
+pub write_page-requires-clause-writable : goal.write_page-requires-clause-writable
+write_page-requires-clause-writable g c =
+    record {
+      read = c.requires.writable.read;
+      short = c.requires.writable.short;
+      many = c.requires.writable.many;
+      ready = λ d is. subst (λ (w : Grid). Each (IsReady w) d.pages) (sym c.loop-page.invariant.kept) (c.requires.writable.ready d is);
+      begun = c.loop-page.invariant.begun;
+    }
 
 pub returns-in_err-write_page-clause-writes : goal.returns-in_err-write_page-clause-writes
 returns-in_err-write_page-clause-writes g c = λ d is pages e.
     let seen = g.T.Tray.seen in
     let within : c.loop-page.page < length d.pages =
-    omega (arith, c.loop-page-test.true, found_count c.args.doc.now c.pages-page-end.result.now c.pages-page-end.ensures, page_count c.args.doc.now d c.requires.read is) in
+    omega (arith, c.loop-page-test.true, found_count c.args.doc.now c.pages-page-end.result.now c.pages-page-end.ensures, page_count c.args.doc.now d c.requires.writable.read is) in
     cut_writes (pages_calls (comments_of c.args.emitter.now) pages) (seen (tray_of c.args.emitter.now)) (seen (tray_of c.write_page.new.emitter)) c.from_residual.result c.from_residual.ensures.0
     (cut_page c.args.walker.now c.loop-page.walker (comments_of c.args.emitter.now) (comments_of c.loop-page.emitter) c.loop-page.page d.pages pages
     (seen (tray_of c.args.emitter.now)) (seen (tray_of c.loop-page.emitter)) (seen (tray_of c.write_page.new.emitter))
-    c.loop-page.invariant.kept c.loop-page.invariant.comments within (c.requires.ready d is) (c.loop-page.invariant.wrote d is pages e) (c.in_err-write_page.ensures.writes d is))
+    c.loop-page.invariant.kept c.loop-page.invariant.comments within (c.requires.writable.ready d is) (c.loop-page.invariant.wrote d is pages e) (c.in_err-write_page.ensures.writes d is))
 
 pub loop-page-preserved : goal.loop-page-preserved
 loop-page-preserved g c =
@@ -39,23 +46,23 @@ loop-page-preserved g c =
       comments = c.in_ok-write_page.ensures.comments ∙ c.loop-page.invariant.comments;
       loan = c.in_ok-write_page.ensures.loan ∙ c.loop-page.invariant.loan;
       begun =
-          let d = c.requires.read.0 in
-          let is = c.requires.read.1 in
+          let d = c.requires.writable.read.0 in
+          let is = c.requires.writable.read.1 in
           let within : c.loop-page.page < length d.pages =
-          omega (arith, c.loop-page-test.true, found_count c.args.doc.now c.pages-page-end.result.now c.pages-page-end.ensures, page_count c.args.doc.now d c.requires.read is) in
+          omega (arith, c.loop-page-test.true, found_count c.args.doc.now c.pages-page-end.result.now c.pages-page-end.ensures, page_count c.args.doc.now d c.requires.writable.read is) in
           next_begun c.args.walker.now c.loop-page.walker (comments_of c.loop-page.emitter) c.loop-page.page d.pages (seen (tray_of c.loop-page.emitter)) (seen (tray_of c.write_page.new.emitter))
-          c.loop-page.invariant.kept within (c.requires.ready d is) c.loop-page.invariant.begun (c.in_ok-write_page.ensures.writes d is);
+          c.loop-page.invariant.kept within (c.requires.writable.ready d is) c.loop-page.invariant.begun (c.in_ok-write_page.ensures.writes d is);
       wrote = λ d is pages e.
           let within : c.loop-page.page < length d.pages =
-          omega (arith, c.loop-page-test.true, found_count c.args.doc.now c.pages-page-end.result.now c.pages-page-end.ensures, page_count c.args.doc.now d c.requires.read is) in
+          omega (arith, c.loop-page-test.true, found_count c.args.doc.now c.pages-page-end.result.now c.pages-page-end.ensures, page_count c.args.doc.now d c.requires.writable.read is) in
           next_written c.args.walker.now c.loop-page.walker (comments_of c.args.emitter.now) (comments_of c.loop-page.emitter) c.loop-page.page d.pages pages
           (seen (tray_of c.args.emitter.now)) (seen (tray_of c.loop-page.emitter)) (seen (tray_of c.write_page.new.emitter))
-          c.loop-page.invariant.kept c.loop-page.invariant.comments within (c.requires.ready d is) (c.loop-page.invariant.wrote d is pages e) (c.in_ok-write_page.ensures.writes d is);
+          c.loop-page.invariant.kept c.loop-page.invariant.comments within (c.requires.writable.ready d is) (c.loop-page.invariant.wrote d is pages e) (c.in_ok-write_page.ensures.writes d is);
     }
 
 pub returns-clause-writes : goal.returns-clause-writes
 returns-clause-writes g c = λ d is pages e.
     let seen = g.T.Tray.seen in
     let past : length d.pages ≤ c.loop-page.page =
-    omega (arith, c.loop-page-test.false, found_count c.args.doc.now c.pages-page-end.result.now c.pages-page-end.ensures, page_count c.args.doc.now d c.requires.read is) in
+    omega (arith, c.loop-page-test.false, found_count c.args.doc.now c.pages-page-end.result.now c.pages-page-end.ensures, page_count c.args.doc.now d c.requires.writable.read is) in
     all_written c.args.walker.now c.loop-page.page d.pages pages (comments_of c.args.emitter.now) (seen (tray_of c.args.emitter.now)) (seen (tray_of c.loop-page.emitter)) past (c.loop-page.invariant.wrote d is pages e)

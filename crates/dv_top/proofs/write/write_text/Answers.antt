@@ -20,14 +20,28 @@ returns-in_err-write_section-clause-writes g c = λ d is pages e.
     c.in_ok-prologue.ensures.writes
     (subst (λ (b : Bool). Cut (sections_of b pages) (seen (tray_of c.prologue.new.self)) (seen (tray_of c.write_section.new.emitter))) c.in_ok-prologue.ensures.stays.comments_same (c.in_err-write_section.ensures.writes d is pages e))
 
+pub write_section-requires : goal.write_section-requires
+write_section-requires g c =
+    let seen = g.T.Tray.seen in
+    record {
+      writable =
+          record {
+            read = c.requires.writable.read;
+            short = c.requires.writable.short;
+            many = c.requires.writable.many;
+            ready = c.requires.writable.ready;
+            begun = still_begun (prologue_of (comments_of c.args.emitter.now) c.args.setup.now []) (seen (tray_of c.args.emitter.now)) (seen (tray_of c.prologue.new.self)) c.requires.writable.begun c.in_ok-prologue.ensures.writes;
+          };
+    }
+
 pub trailer-requires : goal.trailer-requires
 trailer-requires g c =
     let seen = g.T.Tray.seen in
-    let d = c.requires.read.0 in
-    let is = c.requires.read.1 in
-    let few : length d.pages < 2 ^ 31 = omega (arith, c.requires.many, page_count c.args.doc.now d c.requires.read is) in
-    let begun : 0 < (seen (tray_of c.prologue.new.self)).begun = still_begun (prologue_of (comments_of c.args.emitter.now) c.args.setup.now []) (seen (tray_of c.args.emitter.now)) (seen (tray_of c.prologue.new.self)) c.requires.begun c.in_ok-prologue.ensures.writes in
-    pages_begun c.args.walker.now d.pages (λ (pages : List RulePage). sections_of (comments_of c.prologue.new.self) pages) (seen (tray_of c.prologue.new.self)) (seen (tray_of c.write_section.new.emitter)) few (c.requires.ready d is) begun
+    let d = c.requires.writable.read.0 in
+    let is = c.requires.writable.read.1 in
+    let few : length d.pages < 2 ^ 31 = omega (arith, c.requires.writable.many, page_count c.args.doc.now d c.requires.writable.read is) in
+    let begun : 0 < (seen (tray_of c.prologue.new.self)).begun = still_begun (prologue_of (comments_of c.args.emitter.now) c.args.setup.now []) (seen (tray_of c.args.emitter.now)) (seen (tray_of c.prologue.new.self)) c.requires.writable.begun c.in_ok-prologue.ensures.writes in
+    pages_begun c.args.walker.now d.pages (λ (pages : List RulePage). sections_of (comments_of c.prologue.new.self) pages) (seen (tray_of c.prologue.new.self)) (seen (tray_of c.write_section.new.emitter)) few (c.requires.writable.ready d is) begun
     (c.in_ok-write_section.ensures.writes d is)
 
 pub returns-clause-writes : goal.returns-clause-writes
