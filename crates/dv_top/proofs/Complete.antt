@@ -14,7 +14,7 @@ use Rattle.dvi_doc.specs.Laws.{OneDocument}
 use Rattle.vf_expand.specs.Commands.{AllBare, IsBare}
 use Rattle.vf_expand.specs.Unbuilt.{IsFirstUnbuilt, IsUnbuilt}
 use Rattle.dv_top.specs.Each.{Each}
-use Rattle.dv_top.specs.Headline.{IsComplete, IsDoneOrRefused, Leaves, Plain, SaysLine, WordsLeave, most_input}
+use Rattle.dv_top.specs.WholeRun.{IsComplete, IsDoneOrRefused, Leaves, Plain, SaysLine, WordsLeave, most_input}
 use Rattle.dv_top.specs.Job.{Job, job_of}
 use Rattle.dv_top.specs.Message.{message_of}
 use Rattle.dv_top.specs.Pages.{IsBarePage, IsFirstUnbuiltIn}

@@ -10,6 +10,6 @@ pub mod Pages
 pub mod Runs
 pub mod Coming
 pub mod Each
-pub mod Headline
+pub mod WholeRun
 pub mod Unread
 pub mod Writing

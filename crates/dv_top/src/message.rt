@@ -4,9 +4,10 @@ ghost use Rattle.std.specs.Option.{option_map};
 ghost use Rattle.std.specs.Fmt.{signed_decimal};
 ghost use Rattle.dv_base.specs.FileName.{text_of};
 ghost use Rattle.dv_top.specs.Message.{fault_text, message_of, named as named_with, outcome_text, site_text, units_text};
+ghost use Rattle.dv_top.specs.WholeRun.{SaysLine};
 
 use crate::outcome::Outcome;
-use dv_base::{FileName, Line, Site, Units};
+use dv_base::{FileName, Line, Site, Tray, Units};
 use dvi_doc::DocFault;
 use itoa::Integer;
 
@@ -117,7 +118,7 @@ fn words(line: &mut Line, outcome: &Outcome)
 }
 
 /// The line that is said of an outcome, if one is.
-pub fn message(outcome: &Outcome) -> Option<Line>
+fn message(outcome: &Outcome) -> Option<Line>
     ensures { result ≡ message_of outcome.now }
 {
     if let Outcome::Done = outcome {
@@ -127,4 +128,15 @@ pub fn message(outcome: &Outcome) -> Option<Line>
     line.text(b"texdvi: ");
     words(&mut line, outcome);
     Some(line)
+}
+
+impl Outcome {
+    /// Says the line of this outcome, if it has one.
+    pub fn say<T: Tray>(&self, tray: &mut T)
+        ensures { SaysLine (message_of self.now) (T.seen tray.old) (T.seen tray.new) }
+    {
+        if let Some(line) = message(self) {
+            tray.say(line.as_slice());
+        }
+    }
 }

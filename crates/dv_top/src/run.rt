@@ -1,13 +1,11 @@
 //! The one call of the program.
 ghost use Rattle.std.specs.Prelude.{◌≡◌, ◌≤◌, map};
 ghost use Rattle.std.specs.String.{string_bytes};
-ghost use Rattle.dv_top.specs.Headline.{IsComplete, Leaves, Runs, SaysLine, WordsLeave};
+ghost use Rattle.dv_top.specs.WholeRun.{IsComplete, Leaves, Runs, WordsLeave};
 ghost use Rattle.dv_base.specs.Shelf.{Keeps};
 ghost use Rattle.dv_top.specs.JobView.{job_view};
-ghost use Rattle.dv_top.specs.Message.{message_of};
 ghost use Rattle.dv_top.specs.Printing.{IsGoodJob};
 
-use crate::message::message;
 use crate::outcome::Outcome;
 use crate::print::print_bytes;
 use crate::read::read_input;
@@ -48,15 +46,6 @@ fn run_words<S: Shelf, T: Tray>(
     }
 }
 
-/// Says the message of an outcome, if it has one.
-fn say_outcome<T: Tray>(outcome: &Outcome, tray: &mut T)
-    ensures { SaysLine (message_of outcome.now) (T.seen tray.old) (T.seen tray.new) }
-{
-    if let Some(line) = message(outcome) {
-        tray.say(line.as_slice());
-    }
-}
-
 /// Does all that the program does: reads the words and the input they name, writes the text, and says how it ended.
 ///
 /// The words are `dvips`, `-D`, the dots an inch from 10 to 10,000, `-o`, the output's name and the input's name. The input is read
@@ -73,6 +62,6 @@ pub fn run_tool<S: Shelf, T: Tray>(
     ensures complete { IsComplete (map string_bytes words.now) (S.told shelf.old) (S.told shelf.new) (T.seen tray.old) (T.seen tray.new) result }
 {
     let outcome = run_words(alloc, words, shelf, tray);
-    say_outcome(&outcome, tray);
+    outcome.say(tray);
     outcome
 }

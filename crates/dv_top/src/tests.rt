@@ -2,9 +2,10 @@
 ghost use Rattle.std.specs.Prelude.{◌≤◌};
 
 use super::run_tool;
-use dv_base::{MemShelf, MemTray};
+use dv_base::{MemShelf, MemTray, Tray};
 use ps_subset::PROLOG;
 use std::alloc::Global;
+use std::str;
 use std::test::Fail;
 
 /// A document whose one page has one rule.
@@ -117,59 +118,224 @@ fn a_front_of_the_text_where_a_write_fails(rt: HostRuntime) -> Result<(), Fail> 
     Ok(())
 }
 
-/// What a run says that refuses these bytes, and begins no output.
-fn refusal(alloc: Global, bytes: &[u8]) -> Result<Vec<u8>, Fail> {
-    let mut shelf = MemShelf::new(alloc);
-    shelf.add("a.dvi", bytes)?;
-    let mut tray = tray(alloc, 7, 0)?;
-    let outcome = run_tool(alloc, &words(alloc, "a")?, &mut shelf, &mut tray);
-    if outcome.status() != 1 || tray.name().is_some() {
-        return Err("no refusal".into());
+/// The file `a.dvi` of a run.
+#[derive(Clone, Copy, Drop)]
+enum File<'a> {
+    /// There is none.
+    Absent,
+    /// A document with these pages, each a count 0 and the commands between its bop and its eop.
+    Pages(&'a [(i32, &'a [u8])]),
+    /// A document whose one page has so many pushes, and then as many pops.
+    Pushes(usize),
+    /// A document of no page, with bytes 223 at its end until it has so many bytes.
+    Long(usize),
+    /// The first so many bytes of the page of rules.
+    Front(usize),
+    /// The page of rules, with these bytes at that place.
+    Changed(usize, &'a [u8]),
+    /// The page of rules, with a denominator of 0.
+    NoUnits,
+    /// The page of a character.
+    Character,
+}
+
+/// A document with these pages.
+fn document(alloc: Global, pages: &[(i32, &[u8])]) -> Result<Vec<u8>, Fail> {
+    let mut bytes = Vec::from_slice(alloc, &RULE[..15])?;
+    let mut last = -1_i32;
+    for (count, commands) in pages {
+        let bop = i32::try_from(bytes.len())?;
+        bytes.push(139)?;
+        bytes.extend_from_slice(&count.to_be_bytes())?;
+        bytes.extend_from_slice(&[0; 36])?;
+        bytes.extend_from_slice(&last.to_be_bytes())?;
+        bytes.extend_from_slice(commands)?;
+        bytes.push(140)?;
+        last = bop;
     }
-    Ok(Vec::from_slice(alloc, tray.said())?)
+    let post = i32::try_from(bytes.len())?;
+    bytes.push(248)?;
+    bytes.extend_from_slice(&last.to_be_bytes())?;
+    bytes.extend_from_slice(&RULE[2..14])?;
+    bytes.extend_from_slice(&[0; 10])?;
+    bytes.extend_from_slice(&u16::try_from(pages.len())?.to_be_bytes())?;
+    bytes.push(249)?;
+    bytes.extend_from_slice(&post.to_be_bytes())?;
+    bytes.extend_from_slice(&[2, 223, 223, 223, 223])?;
+    Ok(bytes)
+}
+
+/// The bytes of a file; none where it is absent.
+fn bytes_of(alloc: Global, file: &File<'_>) -> Result<Option<Vec<u8>>, Fail> {
+    let mut rule = RULE;
+    let bytes = match file {
+        File::Absent => return Ok(None),
+        File::Pages(pages) => document(alloc, pages)?,
+        File::Pushes(count) => {
+            let mut page = Vec::new(alloc);
+            page.resize(*count, 141)?;
+            page.resize(count.saturating_add(*count), 142)?;
+            document(alloc, &[(1, page.as_slice())])?
+        }
+        File::Long(length) => {
+            let mut bytes = document(alloc, &[])?;
+            bytes.resize(*length, 223)?;
+            bytes
+        }
+        File::Front(length) => Vec::from_slice(alloc, rule.get(..*length).ok_or("long")?)?,
+        File::Changed(at, new) => {
+            for (place, byte) in new.iter().enumerate() {
+                *rule.get_mut(at.saturating_add(place)).ok_or("far")? = *byte;
+            }
+            Vec::from_slice(alloc, &rule)?
+        }
+        File::NoUnits => {
+            for at in [6, 7, 8, 9, 97, 98, 99, 100] {
+                rule[at] = 0;
+            }
+            Vec::from_slice(alloc, &rule)?
+        }
+        File::Character => Vec::from_slice(alloc, &ONE)?,
+    };
+    Ok(Some(bytes))
+}
+
+/// What fails outside.
+#[derive(Clone, Copy, Drop)]
+enum Outside {
+    Nothing,
+    Read,
+    Begin,
+    Write,
+}
+
+/// How a run ends: its status, the text behind the setup where an output was begun, and what is said.
+fn end_of(alloc: Global, words: &str, file: &File<'_>, outside: &Outside) -> Result<String, Fail> {
+    let mut list = Vec::new(alloc);
+    for word in words.split(' ') {
+        list.push(String::from_str(alloc, word)?)?;
+    }
+    let mut shelf = MemShelf::new(alloc);
+    if let Some(bytes) = bytes_of(alloc, file)? {
+        shelf.add("a.dvi", bytes.as_slice())?;
+    }
+    let mut tray = tray(alloc, 4000, 0)?;
+    match outside {
+        Outside::Nothing => {}
+        Outside::Read => shelf.fail_at(1)?,
+        Outside::Begin => {
+            let _ = tray.begin(alloc, "another");
+        }
+        Outside::Write => tray.fail_at(1)?,
+    }
+    let outcome = run_tool(alloc, &list, &mut shelf, &mut tray);
+    let status = outcome.status();
+    let said = str::from_utf8(tray.said())?;
+    let written = str::from_utf8(tray.written())?;
+    let text = written.split("%%EndSetup\n").nth(1).unwrap_or("");
+    let name = tray.name().unwrap_or("nothing");
+    Ok(format!(in alloc; "{status} {name} {text}{said}")?)
 }
 
 #[test]
-fn documents_that_are_refused(rt: HostRuntime) -> Result<(), Fail> {
-    let alloc = rt.alloc();
-    let mut no_pixels = RULE;
-    for at in [6, 7, 8, 9, 97, 98, 99, 100] {
-        no_pixels[at] = 0;
+fn every_outcome(rt: HostRuntime) -> Result<(), Fail> {
+    let right = "dvips -D 300 -o a.ps a";
+    let none = "0 a.ps %%Trailer\nend\n%%EOF\n";
+    let files = [
+        (File::Pages(&[]), none),
+        (File::Long(1_000_000), none),
+        (
+            File::Long(1_000_001),
+            "1 nothing texdvi: FileTooLong a.dvi\n",
+        ),
+        (File::Absent, "1 nothing texdvi: Missing a.dvi\n"),
+        // push, an inch right and down, a rule of 2 by 2 pixels, pop, the rule again; nothing; down and a rule of one pixel
+        (
+            File::Pages(&[
+                (
+                    7,
+                    &[
+                        141, 146, 0, 72, 69, 31, 160, 0, 72, 69, 31, 137, 0, 0, 61, 172, 0, 0, 61,
+                        172, 142, 137, 0, 0, 61, 172, 0, 0, 61, 172,
+                    ],
+                ),
+                (-3, &[]),
+                (
+                    2,
+                    &[239, 1, 120, 160, 0, 72, 69, 31, 137, 0, 0, 0, 1, 0, 0, 0, 1],
+                ),
+            ]),
+            "0 a.ps bos\n%%Page: 7 1\nbop\n300 300 a\n2 2 v\n0 0 a\n2 2 v\neop\n%%Page: -3 2\nbop\neop\n%%Page: 2 3\nbop\n300 x\n1 1 v\neop\neos\n%%Trailer\nend\n%%EOF\n",
+        ),
+        (
+            File::Pushes(1_000),
+            "0 a.ps bos\n%%Page: 1 1\nbop\neop\neos\n%%Trailer\nend\n%%EOF\n",
+        ),
+        (
+            File::Pushes(1_001),
+            "1 nothing texdvi: StackDeep page 1060\n",
+        ),
+        (
+            File::Pages(&[(1, &[]), (2, &[142])]),
+            "1 nothing texdvi: StackUnder page 106\n",
+        ),
+        (
+            File::Pages(&[(1, &[141])]),
+            "1 nothing texdvi: StackLeft page 61\n",
+        ),
+        (
+            File::Pages(&[(1, &[146, 127, 255, 255, 255, 143, 1])]),
+            "1 nothing texdvi: Overflow page 65\n",
+        ),
+        (File::Character, "1 nothing texdvi: NotBuilt 81\n"),
+        (
+            File::NoUnits,
+            "1 nothing texdvi: BadConv 25400000 0 1000 300\n",
+        ),
+        (File::Front(0), "1 nothing texdvi: BadDvi NoPreamble\n"),
+        (File::Front(126), "1 nothing texdvi: BadDvi NoTrailer\n"),
+        (File::Changed(1, &[3]), "1 nothing texdvi: BadDvi BadId 1\n"),
+        (
+            File::Changed(60, &[250]),
+            "1 nothing texdvi: BadDvi Undefined 60\n",
+        ),
+        (
+            File::Changed(89, &[0, 0, 0, 14]),
+            "1 nothing texdvi: BadDvi BadBackPointer 88\n",
+        ),
+        (
+            File::Changed(115, &[0, 2]),
+            "1 nothing texdvi: BadDvi PageCount 1 2\n",
+        ),
+        (
+            File::Changed(118, &[0, 0, 0, 87]),
+            "1 nothing texdvi: BadDvi BadPostPointer 117\n",
+        ),
+    ];
+    for (file, want) in &files {
+        let end = end_of(rt.alloc(), right, file, &Outside::Nothing)?;
+        assert_eq!(rt; end.as_str(), *want);
     }
-    assert_eq!(rt;
-        refusal(alloc, &ONE)?.as_slice(),
-        "texdvi: NotBuilt 81\n".as_bytes()
-    );
-    assert_eq!(rt;
-        refusal(alloc, b"")?.as_slice(),
-        "texdvi: BadDvi NoPreamble\n".as_bytes()
-    );
-    assert_eq!(rt;
-        refusal(alloc, &RULE[..126])?.as_slice(),
-        "texdvi: BadDvi NoTrailer\n".as_bytes()
-    );
-    assert_eq!(rt;
-        refusal(alloc, &no_pixels)?.as_slice(),
-        "texdvi: BadConv 25400000 0 1000 300\n".as_bytes()
-    );
-    Ok(())
-}
-
-#[test]
-fn an_input_that_is_not_read(rt: HostRuntime) -> Result<(), Fail> {
-    let alloc = rt.alloc();
-    let mut shelf = MemShelf::new(alloc);
-    shelf.add("rule.dvi", &RULE)?;
-    shelf.fail_at(1)?;
-    for (name, said) in [
-        ("rule", "texdvi: ReadFault rule.dvi\n"),
-        ("none", "texdvi: Missing none.dvi\n"),
-    ] {
-        let mut tray = tray(alloc, 7, 0)?;
-        let outcome = run_tool(alloc, &words(alloc, name)?, &mut shelf, &mut tray);
-        assert!(rt; outcome.status() > 0, "{name}");
-        assert_eq!(rt; tray.said(), said.as_bytes(), "{name}");
-        assert!(rt; tray.name().is_none(), "{name}");
+    let outside = [
+        (Outside::Read, "3 nothing texdvi: ReadFault a.dvi\n"),
+        (Outside::Begin, "4 another texdvi: WriteFault\n"),
+        (Outside::Write, "4 a.ps texdvi: WriteFault\n"),
+    ];
+    for (fault, want) in &outside {
+        let end = end_of(rt.alloc(), right, &File::Pages(&[]), fault)?;
+        assert_eq!(rt; end.as_str(), *want);
+    }
+    let words = [
+        ("", "2 nothing texdvi: BadWords 0\n"),
+        ("dvips", "2 nothing texdvi: BadWords 1\n"),
+        ("dvips -D 9 -o a.ps a", "2 nothing texdvi: BadWords 2\n"),
+        ("dvips -D 300 a", "2 nothing texdvi: BadWords 3\n"),
+        ("dvips -D 300 -o a.ps -a", "2 nothing texdvi: BadWords 5\n"),
+        ("dvips -D 300 -o a.ps a b", "2 nothing texdvi: BadWords 6\n"),
+    ];
+    for (line, want) in &words {
+        let end = end_of(rt.alloc(), line, &File::Pages(&[]), &Outside::Nothing)?;
+        assert_eq!(rt; end.as_str(), *want);
     }
     Ok(())
 }

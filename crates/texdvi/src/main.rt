@@ -1,20 +1,19 @@
-//! `texdvi`, the program: it hands its words, the files of the current folder and the standard streams to [`dv_top::run_tool`], and
-//! ends with the status of the outcome.
+//! `texdvi`, the program: it hands its words, the files of the current folder and the standard streams to [`dv_top::run_tool`], hands
+//! on what the run has written, and ends with the status of the outcome.
 #![tactic(auto)]
-ghost use Rattle.std.specs.Prelude.{◌≡◌, map, None};
+
+ghost use Rattle.std.specs.Prelude.{map};
 ghost use Rattle.std.specs.Process.{exit_status};
 ghost use Rattle.std.specs.String.{string_bytes};
-ghost use Rattle.dv_base.specs.Shelf.{Told};
-ghost use Rattle.dv_base.specs.FileShelf as files;
-ghost use Rattle.dv_base.specs.Tray.{Seen};
-ghost use Rattle.dv_base.specs.FileTray as trays;
-ghost use Rattle.dv_top.specs.Headline.{Runs};
-ghost use Rattle.dv_top.specs.Status.{status_of};
-ghost use Rattle.dv_top.specs.declared.outcome.Outcome.{Outcome};
+ghost use Rattle.dv_base.specs.FileShelf.{told_of};
+ghost use Rattle.dv_base.specs.FileTray.{seen_of};
+ghost use Rattle.texdvi.specs.Ends.{Ends};
 
 use dv_base::{FileShelf, FileTray};
-use dv_top::run_tool;
+use dv_top::{Outcome, run_tool};
+use std::alloc::Global;
 use std::process::ExitCode;
+use std::rt::Files;
 use std::{env, io};
 
 /// The status where the system doesn't give the words.
@@ -29,19 +28,30 @@ fn words(rt: &HostRuntime) -> io::Result<Vec<String>> {
     Ok(words)
 }
 
-/// Does what the words ask for over the files and streams of the system.
-fn run(rt: &HostRuntime, words: &[String]) -> ExitCode
-    ensures { (o : Outcome) × (later : Told) × (new : Seen) × Runs (map string_bytes words.now) (files.counted 0 0 0) later (trays.counted 0 None 0) new o × (exit_status result ≡ status_of o) }
+/// Does what the words ask for, and hands on what was written. An output that isn't taken whole is never a success.
+fn run<R: Files + Input + Print + Eprint>(
+    alloc: Global,
+    words: &[String],
+    shelf: &mut FileShelf<'_, R>,
+    tray: &mut FileTray<'_, R>,
+) -> ExitCode
+    ensures { Ends (map string_bytes words.now) (told_of shelf.old) (told_of shelf.new) (seen_of tray.old) (seen_of tray.new) (exit_status result) }
 {
-    let mut shelf = FileShelf::new(rt);
-    let mut tray = FileTray::new(rt);
-    let outcome = run_tool(rt.alloc(), words, &mut shelf, &mut tray);
-    ExitCode::from(outcome.status())
+    let outcome = run_tool(alloc, words, shelf, tray);
+    match tray.finish() {
+        Ok(()) => ExitCode::from(outcome.status()),
+        Err(_) => {
+            Outcome::WriteFault.say(tray);
+            ExitCode::from(Outcome::WriteFault.status())
+        }
+    }
 }
 
 fn main(rt: HostRuntime) -> ExitCode {
     let Ok(words) = words(&rt) else {
         return ExitCode::from(NO_WORDS);
     };
-    run(&rt, &words)
+    let mut shelf = FileShelf::new(&rt);
+    let mut tray = FileTray::new(&rt);
+    run(rt.alloc(), &words, &mut shelf, &mut tray)
 }

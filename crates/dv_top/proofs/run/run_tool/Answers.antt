@@ -10,5 +10,5 @@ pub returns-clause-complete : goal.returns-clause-complete
 returns-clause-complete g c =
     let told = g.S.Shelf.told in
     let seen = g.T.Tray.seen in
-    complete (one_document one_spelling) faultless (map string_bytes c.args.words.now) (told c.args.shelf.now) (told c.run_words-outcome.new.shelf) (seen c.args.tray.now) (seen c.run_words-outcome.new.tray) (seen c.say_outcome.new.tray) c.run_words-outcome.result
-    c.run_words-outcome.ensures.leaves c.say_outcome.ensures
+    complete (one_document one_spelling) faultless (map string_bytes c.args.words.now) (told c.args.shelf.now) (told c.run_words-outcome.new.shelf) (seen c.args.tray.now) (seen c.run_words-outcome.new.tray) (seen c.say.new.tray) c.run_words-outcome.result
+    c.run_words-outcome.ensures.leaves c.say.ensures
