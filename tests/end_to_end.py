@@ -84,22 +84,61 @@ def prints(name, content, pages, dpi=300):
         check(name + ", text", folder.get("out.ps"), text(b"in.dvi", pages, dpi))
 
 
+WORDS = ("dvips", "-D", "300", "-o")
+LOST = (4, b"texdvi: WriteFault\n")
+PIXEL = 15788  # 65536 * 72.27 units are an inch, so at 300 pixels an inch these are a little more than one
+
+
+def ruled(count):
+    """A document with so many rules at one place, and the page's lines."""
+    return dvi.document([(1, dvi.put_rule(PIXEL, PIXEL) * count)]), b"2 2 v\n" * count
+
+
 def files_and_streams():
     with Folder(rule_dvi=dvi.RULE, out_ps=b"an old and longer output" * 1000) as folder:
-        words = ("dvips", "-D", "300", "-o")
-        check("to a file", folder.run(*words, "out.ps", "rule.dvi"), (0, b"", b""))
+        check("to a file", folder.run(*WORDS, "out.ps", "rule.dvi"), (0, b"", b""))
         check("to a file, text", folder.get("out.ps"), STORED)
-        check("to standard output", folder.run(*words, "-", "rule"), (0, STORED, b""))
-        check("to a file of an odd name", folder.run(*words, "-x", "rule.dvi"), (0, b"", b""))
+        check("to standard output", folder.run(*WORDS, "-", "rule"), (0, STORED, b""))
+        check("to a file of an odd name", folder.run(*WORDS, "-x", "rule.dvi"), (0, b"", b""))
         check("to a file of an odd name, text", folder.get("-x"), STORED)
         title = STORED.replace(b"%%Title: rule.dvi", b"%%Title: -")
-        check("from standard input", folder.run(*words, "-", "-", stdin=dvi.RULE), (0, title, b""))
-        check("an output that can't be made", folder.run(*words, "no/out.ps", "rule.dvi"), (4, b"", b"texdvi: WriteFault\n"))
-        if os.path.exists("/dev/full"):
-            check("a full device", folder.run(*words, "/dev/full", "rule.dvi"), (4, b"", b"texdvi: WriteFault\n"))
-            with open("/dev/full", "wb") as full:
-                status, _, said = folder.run(*words, "-", "rule.dvi", stdout=full)
-            check("a full standard output", (status, said), (4, b"texdvi: WriteFault\n"))
+        check("from standard input", folder.run(*WORDS, "-", "-", stdin=dvi.RULE), (0, title, b""))
+        check("an output that can't be made", folder.run(*WORDS, "no/out.ps", "rule.dvi"), (4, b"", LOST[1]))
+
+
+def long_outputs():
+    """Texts of 65,536 bytes, which is how many are gathered before they go out, of a few bytes fewer and more, and of many times as many."""
+    bare = len(text(b"i.dvi", [(1, b"")]))
+    content, lines = ruled((65_536 - bare) // len(b"2 2 v\n"))
+    for length in range(1, 9):
+        name = b"i" * length + b".dvi"
+        want = text(name, [(1, lines)])
+        with Folder() as folder:
+            folder.put(name.decode(), content)
+            for output in ("out.ps", "-"):
+                status, out, said = folder.run(*WORDS, output, name.decode())
+                got = out if output == "-" else folder.get(output)
+                check(f"{len(want)} bytes to {output}", (status, said, got), (0, b"", want))
+    content, lines = ruled(100_000)
+    prints("a long text", content, [(1, lines)])
+
+
+def lost_outputs():
+    """Where what is written isn't taken, the status is 4 and one line is said, whether that shows at once or only at the end."""
+    for name, content in [("a short text", dvi.RULE), ("a long text", ruled(60_000)[0])]:
+        with Folder(in_dvi=content) as folder:
+            reader, writer = os.pipe()
+            os.close(reader)
+            check(name + ", a closed pipe", streamed(folder, writer), LOST)
+            check(name + ", a full device", folder.run(*WORDS, "/dev/full", "in"), (4, b"", LOST[1]))
+            check(name + ", a full standard output", streamed(folder, os.open("/dev/full", os.O_WRONLY)), LOST)
+
+
+def streamed(folder, output):
+    """A run to this standard output, which is closed behind it: its status and what it says."""
+    status, _, said = folder.run(*WORDS, "-", "in", stdout=output)
+    os.close(output)
+    return status, said
 
 
 def words():
@@ -119,6 +158,10 @@ def words():
     for length in range(6):
         refused(f"{length} words", dvi.RULE, 2, b"BadWords %d" % length, good[:length])
     refused("seven words", dvi.RULE, 2, b"BadWords 6", good + ["in.dvi"])
+    with Folder(in_dvi=dvi.RULE, out_ps=b"as it was") as folder:
+        for place in range(6):
+            check(f"word {place} not UTF-8", folder.run(*good[:place], b"\xff", *good[place + 1 :]), (6, b"", b""))
+        check("words not UTF-8, output", folder.get("out.ps"), b"as it was")
 
 
 def inputs():
@@ -153,8 +196,7 @@ def pages():
     prints("no page", dvi.document([]), [])
     prints("a page of rules", dvi.RULE, [(1, b"1 w\n3 1 v\n")])
     prints("another resolution", dvi.RULE, [(1, b"1 w\n6 1 v\n")], dpi=600)
-    # 65536 * 72.27 units are an inch, 300 pixels
-    inch, pixel = 4736287, 15788
+    inch, pixel = 4736287, PIXEL
     moves = dvi.PUSH + dvi.right(inch) + dvi.down(inch) + dvi.put_rule(pixel, pixel) + dvi.POP + dvi.put_rule(pixel, pixel)
     prints(
         "pushes, moves and several pages",
@@ -200,7 +242,7 @@ def main():
     if not os.path.exists(PROGRAM):
         print(f"tests/run: {PROGRAM} is not there; run rt ci first")
         return 1
-    for part in (files_and_streams, words, inputs, documents, pages, moves):
+    for part in (files_and_streams, long_outputs, lost_outputs, words, inputs, documents, pages, moves):
         part()
     print(f"{passed} passed, {failed} failed")
     return 1 if failed else 0
