@@ -1,4 +1,17 @@
 //! The whole program: words, files and documents in, a text or a message out.
+//!
+//! [`run_tool`] does all of it over a shelf and a tray. The program hands it those of real files; here they are in memory.
+//!
+//! ```
+//! let mut shelf = MemShelf::new(alloc);
+//! shelf.add("rule.dvi", &document)?;
+//! let mut tray = MemTray::new(alloc, 4_000, 100)?;
+//! // the words are: dvips -D 300 -o rule.ps rule
+//! let outcome = run_tool(alloc, &words, &mut shelf, &mut tray);
+//! if outcome.status() == 0 {
+//!     // the text is tray.written(), and tray.said() is empty
+//! }
+//! ```
 #![tactic(auto)]
 
 mod blank;

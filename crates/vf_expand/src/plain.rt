@@ -55,23 +55,23 @@ fn set_rule<C: Canvas>(
 #[tactic(auto, unfolding(crate::specs::Marks::step))]
 pub fn plain<C: Canvas>(
     grid: &Grid,
-    cmd: Cmd<'_>,
+    cmd: &Cmd<'_>,
     pos: &mut Pos,
     canvas: &mut C,
 ) -> Result<(), Halt<C::Fault>>
-    requires neither { bracket (view cmd) ≡ Neither }
-    requires bare { IsBare (view cmd) }
-    requires short { special_size (view cmd) < 2 ^ 31 }
-    requires can { CanTake C.can canvas.old (marks_alone (step grid.now (view cmd) (record { place = pos.old; font = None }))) }
-    ensures ok { OnOk result (Follows C.takes canvas.old canvas.new (record { place = pos.new; font = None }) (step grid.now (view cmd.entry) (record { place = pos.old; font = None }))) }
+    requires neither { bracket (view cmd.now) ≡ Neither }
+    requires bare { IsBare (view cmd.now) }
+    requires short { special_size (view cmd.now) < 2 ^ 31 }
+    requires can { CanTake C.can canvas.old (marks_alone (step grid.now (view cmd.now) (record { place = pos.old; font = None }))) }
+    ensures ok { OnOk result (Follows C.takes canvas.old canvas.new (record { place = pos.new; font = None }) (step grid.now (view cmd.now) (record { place = pos.old; font = None }))) }
     ensures same { OnOk result (SameCondition C.can canvas.old canvas.new) }
-    ensures stops { IfErr result (Halts C.refuses canvas.old canvas.new (marks_alone (step grid.now (view cmd.entry) (record { place = pos.old; font = None })))) }
-    ensures cause { IfErr result (IsHaltCause (view cmd.entry) pos.old) }
+    ensures stops { IfErr result (Halts C.refuses canvas.old canvas.new (marks_alone (step grid.now (view cmd.now) (record { place = pos.old; font = None })))) }
+    ensures cause { IfErr result (IsHaltCause (view cmd.now) pos.old) }
 {
     match cmd {
-        Cmd::SetRule { a, b } => set_rule(grid, pos, a, b, canvas),
+        Cmd::SetRule { a, b } => set_rule(grid, pos, *a, *b, canvas),
         Cmd::PutRule { a, b } => {
-            let (height, width) = sizes(a, b)?;
+            let (height, width) = sizes(*a, *b)?;
             put_rule(grid, pos, height, width, canvas)
         }
         Cmd::Xxx(bytes) => put_special(pos, bytes, canvas),

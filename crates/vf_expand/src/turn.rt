@@ -22,20 +22,20 @@ pub const MOST_OPEN: usize = 1_000;
 pub fn turn<C: Canvas>(
     grid: &Grid,
     saved: &mut Vec<Pos>,
-    cmd: Cmd<'_>,
+    cmd: &Cmd<'_>,
     spot: Spot,
     pos: &mut Pos,
     canvas: &mut C,
 ) -> Result<(), WalkFault<C::Fault>>
     requires room { 1000 ≤ vec_capacity saved.old }
     requires most { vec_len saved.old ≤ 1000 }
-    requires bare { IsBare (view cmd) }
-    requires short { special_size (view cmd) < 2 ^ 31 }
-    requires can { CanTake C.can canvas.old (turn_marks (turned grid.now (view cmd) (last_first saved.old.items) (record { place = pos.old; font = None }))) }
-    ensures ok { OnOk result (FollowsTurn C.takes canvas.old canvas.new (last_first saved.new.items) (record { place = pos.new; font = None }) (turned grid.now (view cmd.entry) (last_first saved.old.items) (record { place = pos.old; font = None }))) }
+    requires bare { IsBare (view cmd.now) }
+    requires short { special_size (view cmd.now) < 2 ^ 31 }
+    requires can { CanTake C.can canvas.old (turn_marks (turned grid.now (view cmd.now) (last_first saved.old.items) (record { place = pos.old; font = None }))) }
+    ensures ok { OnOk result (FollowsTurn C.takes canvas.old canvas.new (last_first saved.new.items) (record { place = pos.new; font = None }) (turned grid.now (view cmd.now) (last_first saved.old.items) (record { place = pos.old; font = None }))) }
     ensures same { OnOk result (SameCondition C.can canvas.old canvas.new) }
-    ensures stops { IfErr result (StopsTurn C.refuses canvas.old canvas.new (turn_marks (turned grid.now (view cmd.entry) (last_first saved.old.items) (record { place = pos.old; font = None })))) }
-    ensures cause { IfErr result (IsTurnCause spot (view cmd.entry) (last_first saved.old.items) pos.old) }
+    ensures stops { IfErr result (StopsTurn C.refuses canvas.old canvas.new (turn_marks (turned grid.now (view cmd.now) (last_first saved.old.items) (record { place = pos.old; font = None })))) }
+    ensures cause { IfErr result (IsTurnCause spot (view cmd.now) (last_first saved.old.items) pos.old) }
     ensures room { 1000 ≤ vec_capacity saved.new }
     ensures most { OnOk result (vec_len saved.new ≤ 1000) }
 {

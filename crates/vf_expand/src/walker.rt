@@ -106,7 +106,14 @@ fn walk<C: Canvas>(
             Ok((cmd, end)) => {
                 let place = first + at as u32;
                 at = end;
-                turn(grid, saved, cmd, Spot::Page { at: place }, &mut pos, canvas)?;
+                turn(
+                    grid,
+                    saved,
+                    &cmd,
+                    Spot::Page { at: place },
+                    &mut pos,
+                    canvas,
+                )?;
             }
             Err(_) => unreachable!(),
         }
