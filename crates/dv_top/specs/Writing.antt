@@ -1,4 +1,4 @@
--- What is asked before the text of a document is written.
+-- What is asked before the text of a document is written. No public clause cites it.
 use Rattle.std.specs.Prelude.{ℕ, ◌^◌, ◌<◌, length}
 use Rattle.dv_base.specs.Tray.{Seen}
 use Rattle.dvi_doc.specs.Document.{Document}

@@ -1,4 +1,4 @@
--- The fault of a walk at whose command a limit was passed, or a mark was refused.
+-- The fault of a walk at whose command a limit was passed, or a mark was refused. No public clause cites it.
 use Rattle.dv_base.specs.declared.font_id.Spot.{Spot}
 use Rattle.vf_expand.specs.declared.fault.WalkFault.{WalkFault}
 use Rattle.vf_expand.specs.declared.fault.WalkFault.TheVariants as fault

@@ -1,4 +1,5 @@
--- A page whose marks are defined, and whose pushes are never too deep, is walked over to its end by every canvas that refuses no mark.
+-- A page whose marks are defined, and whose pushes are never too deep, is walked over to its end by every canvas that refuses no mark. (These
+-- stand here and not in proofs/, since the crate above cites them.)
 use Rattle.std.specs.Prelude.{◌≡◌, ℕ, ◌<◌, List, length, Some, None}
 use Rattle.std.proofs.Common.{refl, arith}
 use Rattle.dv_base.specs.declared.font_id.Spot.{Spot}
