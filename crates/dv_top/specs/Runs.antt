@@ -31,7 +31,7 @@ use Rattle.dv_top.specs.declared.outcome.Outcome.{Outcome}
 use Rattle.dv_top.specs.declared.outcome.Outcome.TheVariants as outcome
 
 -- A document that can be printed, and what it then says: the bytes are the document, its units are usable, all its pages' marks are
--- defined.
+-- defined, and no push in them is too deep.
 pub record Printable (job : Job) (bytes : List ℕ) : Type 0 where
   pub doc : Document
   pub is : IsDoc bytes doc
@@ -129,7 +129,7 @@ IsRefusalOf job bytes (outcome.BadDvi kind) = IsReadingCause bytes (outcome.BadD
 IsRefusalOf job bytes o = (doc : Document) × IsDoc bytes doc × IsPrepareCause doc job.dpi o
 
 -- What printing bytes leaves, by its outcome. A run that is done has written the whole text, and the text shows what is owed; one that
--- couldn't write has written a front of it, or has begun nothing; any other has begun nothing.
+-- couldn't write could have printed the document, and has written a front of it, or has begun nothing; any other has begun nothing.
 abbrev pub Prints : Job → List ℕ → Seen → Seen → Outcome → Type 0
 Prints job bytes old new outcome.Done =
     (p : Printable job bytes) × (events (text_for p) ≡ Some (owed_for p)) × Began job.output (text_for p) old new
