@@ -1,0 +1,6 @@
+pub mod Units
+pub mod Decimals
+pub mod Dimension
+pub mod FileNames
+pub mod Special
+pub mod View
