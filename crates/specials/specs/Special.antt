@@ -5,6 +5,7 @@
 use Rattle.std.specs.Prelude.{ℕ, ℤ, pos, List, [], ◌∷◌, Bool, Option, Some, None, length, drop, take, nat_eq, int_lt, codes, ◌-◌, if◌then◌else◌, ◌&&◌, ◌||◌}
 use Rattle.std.specs.Option.{option_map, is_some, unwrap_or}
 use Rattle.std.specs.List.{prefix_len, suffix_len, before_first, after_first}
+use Rattle.specials.specs.Commas.{is_comma}
 use Rattle.specials.specs.Dimension.{dimension_of}
 use Rattle.specials.specs.FileNames.{is_file_name}
 
@@ -17,9 +18,6 @@ pub data Meaning : Type 0 where
 
 abbrev pub is_space : ℕ → Bool
 is_space byte = nat_eq byte 32
-
-abbrev pub is_comma : ℕ → Bool
-is_comma byte = nat_eq byte 44
 
 abbrev pub without_leading_spaces : List ℕ → List ℕ
 without_leading_spaces text = drop (prefix_len is_space text) text

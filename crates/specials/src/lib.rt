@@ -15,6 +15,7 @@
 //! memory.
 #![tactic(auto)]
 
+mod commas;
 mod decimals;
 mod dimensions;
 mod file_names;
@@ -22,6 +23,7 @@ mod special;
 #[cfg(test)]
 mod tests;
 
+pub use commas::split_at_comma;
 pub use decimals::decimal_value;
 pub use dimensions::dimension;
 pub use file_names::is_file_name;

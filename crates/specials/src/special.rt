@@ -1,10 +1,11 @@
 //! Specials.
 ghost use Rattle.std.specs.Prelude.{◌≡◌, ◌≤◌, ◌<◌, ◌^◌, ◌-◌, ℕ, List, length, drop, true, false, None, Some, MatchOption};
-ghost use Rattle.std.specs.List.{before_first, after_first, position_or_len, prefix_len, suffix_len};
+ghost use Rattle.std.specs.List.{prefix_len, suffix_len};
 ghost use Rattle.specials.specs.FileNames.{is_file_name};
-ghost use Rattle.specials.specs.Special.{Meaning, after, header_in, is_comma, is_space, keyed, literal_in, paper_in, paper_of, special_of, trimmed, without_leading_spaces, without_trailing_spaces};
+ghost use Rattle.specials.specs.Special.{Meaning, after, header_in, is_space, keyed, literal_in, paper_in, paper_of, special_of, trimmed, without_leading_spaces, without_trailing_spaces};
 ghost use Rattle.specials.specs.View.{special_view};
 
+use crate::commas::split_at_comma;
 use crate::dimensions::dimension;
 use crate::file_names::is_file_name;
 
@@ -81,26 +82,6 @@ fn trimmed(text: &[u8]) -> &[u8]
 {
     let text = without_leading_spaces(text);
     &text[..text.len() - trailing_spaces(text)]
-}
-
-/// The place of the first comma, or the length where there is none.
-fn first_comma(text: &[u8]) -> usize
-    ensures place { result ≡ position_or_len is_comma text.now }
-    ensures inside { result ≤ length text.now }
-{
-    text.iter().take_while(|byte| **byte != b',').count()
-}
-
-/// What stands before the first comma and after it; without a comma, all and nothing.
-fn split_at_comma(text: &[u8]) -> (&[u8], &[u8])
-    ensures before { result.0.now ≡ before_first is_comma text.now }
-    ensures after { result.1.now ≡ after_first is_comma text.now }
-{
-    let (before, rest) = text.split_at(first_comma(text));
-    match rest {
-        [_, after @ ..] => (before, after),
-        [] => (before, rest),
-    }
 }
 
 /// The paper of these sizes, where both are above 0.

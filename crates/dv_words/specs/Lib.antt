@@ -1,0 +1,17 @@
+pub mod Language
+pub mod Grammar
+pub mod Stepping
+pub mod Numbers
+pub mod Names
+pub mod Windows
+pub mod Draft
+pub mod Settings
+pub mod Tools
+pub mod Jobs
+pub mod Words
+pub mod JobView
+pub mod Answers
+pub mod Views
+pub mod OpenedView
+pub mod Steps
+pub mod Outcome
