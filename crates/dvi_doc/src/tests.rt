@@ -1,4 +1,4 @@
-//! Documents and faults, by the printed examples.
+//! Documents that were written by hand from the DVI format, and faults.
 
 ghost use Rattle.std.specs.Prelude.{◌≡◌, ◌≤◌, ◌^◌, length, IfOk};
 

@@ -1,4 +1,4 @@
-//! Spellings and commands by the printed table, and the faults.
+//! Spellings and commands by the table of the DVI format, and the faults.
 
 use super::*;
 use std::test::Fail;

@@ -1,4 +1,4 @@
--- How the store of a font is read.
+-- How the store of a font is read. (No public clause cites this module: its words are those of the reader.)
 use Rattle.std.specs.Prelude.{◌≡◌, ℕ, List, ◌≤◌, length, slice_range, map}
 use Rattle.std.specs.List.{All, sum_by}
 use Rattle.pk_raster.specs.Font.{Known, known_bytes}

@@ -1,4 +1,4 @@
--- How the rows of a glyph are filled: what the board shows of them at each moment.
+-- How the rows of a glyph are filled: what the board shows of them at each moment. (No public clause cites this module: its words are those of the reader.)
 use Rattle.std.specs.Prelude.{◌≡◌, ℕ, zero, suc, List, [], ◌∷◌, ◌++◌, ◌+◌, ◌-◌, ◌*◌, ◌^◌, ◌<◌, ◌≤◌, length, take, replicate}
 use Rattle.std.specs.List.{concat, flat_map, AllByRecursion}
 use Rattle.pk_raster.specs.Runs.{Item, Run, colours, repeats, Single, repeated}

@@ -1,4 +1,4 @@
--- What the reader of parts answers.
+-- What the reader of parts answers. (Of these words public clauses cite `IsUndefinedAt` and `IsShortAt` alone.)
 use Rattle.std.specs.Prelude.{◌≡◌, ℕ, List, ◌+◌, ◌<◌, ◌≤◌, length, drop, slice_index, Some}
 use Rattle.pk_raster.specs.Parts.{Part, Packet, part_at, extent}
 use Rattle.pk_raster.specs.Parts.Part.{Other, Character}

@@ -1,4 +1,4 @@
--- How far a raster of runs is read.
+-- How far a raster of runs is read. (No public clause cites this module: its words are those of the reader.)
 use Rattle.std.specs.Prelude.{◌≡◌, ◌≢◌, ℕ, List, [], ◌++◌, ◌+◌, ◌*◌, ◌<◌, ◌≤◌, length, drop}
 use Rattle.pk_raster.specs.Runs.{Item, repeats, Single, pixels}
 use Rattle.pk_raster.specs.Items.{Spells}

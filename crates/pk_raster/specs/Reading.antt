@@ -1,4 +1,4 @@
--- What the reader of items answers.
+-- What the reader of items answers. (No public clause cites this module: its words are those of the reader.)
 use Rattle.std.specs.Prelude.{◌≡◌, ℕ, List, ◌^◌, ◌<◌, ◌≤◌, length, drop, min, None, Some}
 use Rattle.pk_raster.specs.Runs.{Item, Run, Repeat}
 use Rattle.pk_raster.specs.Items.{item_at, InRepeat}

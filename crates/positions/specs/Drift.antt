@@ -1,5 +1,6 @@
--- Pixels of a place (after DVItype: The Program, in outline). Pixel places are kept beside those in units, since letters look best
--- at whole pixel widths; they may drift from the exact places by a limit e, and a move that is no mere kern brings them back.
+-- Pixels of a place. They are kept beside the places in units, since letters look best at whole pixel widths; they may drift from the
+-- exact places by a limit e, and a move that is no mere kern brings them back. (The rule is this project's own. It is made after that of
+-- DVItype, which no standard of the format prescribes.)
 use Rattle.std.specs.Prelude.{◌^◌, Bool, ◌||◌, nat_lt, int_le, if◌then◌else◌, ℤ, pos, ◌+ℤ◌, ◌-ℤ◌, ◌*ℤ◌, ◌≤ℤ◌, neg_ℤ, unsigned_abs, Option, Some, None}
 use Rattle.std.specs.Int.{int_max, int_min}
 use Rattle.dv_base.specs.Rounding.{Fraction, rounded}
