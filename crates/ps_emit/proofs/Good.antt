@@ -89,10 +89,10 @@ text_is_good comments s pages good fine = record {
 }
 
 pub taken_are_good : TakenAreGood
-taken_are_good [] all = tt
-taken_are_good (m ∷ ms) all = go m (all m (Contains-append_left (m ∷ []) ms m (Contains-push [] m))) (taken_are_good ms (λ n h. all n (Contains-append_right (m ∷ []) ms n h)))
+taken_are_good fonts [] all = tt
+taken_are_good fonts (m ∷ ms) all = go m (all m (Contains-append_left (m ∷ []) ms m (Contains-push [] m))) (taken_are_good fonts ms (λ n h. all n (Contains-append_right (m ∷ []) ms n h)))
   where
-    go : (n : Mark) → IsTakeable n → AllGoodRules (painted_of ms) → AllGoodRules (painted_of (n ∷ ms))
-    go (OfGlyph g) h rest = absurd h
+    go : (n : Mark) → IsTakeable fonts n → AllGoodRules (painted_of ms) → AllGoodRules (painted_of (n ∷ ms))
+    go (OfGlyph g) h rest = rest
     go (OfRule r) h rest = (record { x = (h.2).0; y = (h.2).1; columns_some = h.0; columns = (h.2).2; rows_some = h.1; rows = (h.2).3 }, rest)
     go (OfSpecial s) h rest = rest

@@ -74,4 +74,4 @@ CallsMakeText = (comments : Bool) (s : Setup) (pages : List RulePage) → prolog
 
 -- The rules among marks that an emitter can take are good.
 abbrev pub TakenAreGood : Type 0
-TakenAreGood = (marks : List Mark) → ((mark : Mark) → Contains marks mark → IsTakeable mark) → AllGoodRules (painted_of marks)
+TakenAreGood = (fonts : ℕ) (marks : List Mark) → ((mark : Mark) → Contains marks mark → IsTakeable fonts mark) → AllGoodRules (painted_of marks)

@@ -9,7 +9,7 @@ use Rattle.positions.specs.Conditions.{SameCondition}
 use Rattle.ps_emit.specs.Items.{Pixel, Painted, rule_lines, rules_lines, place_after}
 use Rattle.ps_emit.specs.Written.{Wrote, Cut, wrote_nothing, wrote_more, cut_later, cut_longer}
 use Rattle.ps_emit.specs.Shown.{tray_of, place_of}
-use Rattle.ps_emit.specs.Taken.{painted_of, mark_lines, CanTake, Took, Refused}
+use Rattle.ps_emit.specs.Taken.{painted_of, mark_lines, CanTake, IsTakeable, Took, Refused}
 use Rattle.ps_emit.specs.declared.emitter.Emitter.{Emitter}
 
 painted_of-append : (xs ys : List Mark) → painted_of (xs ++ ys) ≡ painted_of xs ++ painted_of ys
@@ -40,13 +40,14 @@ both_written from next xs ys a b c e f g =
     (wrote_more (mark_lines from xs) (mark_lines next ys) a b c f g)
 
 pub took_nothing : {T : Type 0} {G : Ghosts T} (e : Emitter T G) → Took e e []
-took_nothing {T} {G} e = record { wrote = wrote_nothing (G.seen (tray_of e)); loan_same = refl; comments_same = refl; place = refl }
+took_nothing {T} {G} e = record { wrote = wrote_nothing (G.seen (tray_of e)); loan_same = refl; comments_same = refl; fonts_same = refl; place = refl }
 
 pub took_more : {T : Type 0} {G : Ghosts T} (a b c : Emitter T G) (xs ys : List Mark) → Took a b xs → Took b c ys → Took a c (xs ++ ys)
 took_more {T} {G} a b c xs ys f g = record {
   wrote = both_written (place_of a) (place_of b) xs ys (G.seen (tray_of a)) (G.seen (tray_of b)) (G.seen (tray_of c)) f.place f.wrote g.wrote;
   loan_same = g.loan_same ∙ f.loan_same;
   comments_same = g.comments_same ∙ f.comments_same;
+  fonts_same = g.fonts_same ∙ f.fonts_same;
   place = g.place ∙ ap (λ p. place_after p (painted_of ys)) f.place ∙ sym (place_behind (place_of a) xs ys);
 }
 
@@ -61,11 +62,13 @@ refused_after {T} {G} a b c xs ys mark f g = record {
   comments_same = g.comments_same ∙ f.comments_same;
 }
 
--- what has been taken leaves an output begun
+-- what has been taken leaves an output begun, and the text's fonts
 pub same_condition : {T : Type 0} {G : Ghosts T} (old new : Emitter T G) (marks : List Mark) → Took old new marks → SameCondition CanTake old new
 same_condition {T} {G} old new marks f mark =
-    let e = f.wrote.keeps.begun_same in
-    ((λ h. (omega (arith, e, h.0), h.1)), (λ h. (omega (arith, e, h.0), h.1)))
+    let e = f.wrote.keeps.begun_same in (
+      (λ h. (omega (arith, e, h.0), subst (λ n. IsTakeable n mark) (sym f.fonts_same) h.1)),
+      (λ h. (omega (arith, e, h.0), subst (λ n. IsTakeable n mark) f.fonts_same h.1)),
+    )
 
 -- a mark that is refused cuts the lines of all marks of which it is the next
 pub refused_cut : {T : Type 0} {G : Ghosts T} (a b : Emitter T G) (xs : List Mark) (mark : Mark) (rest all : List Mark) → Refused a b xs mark → xs ++ mark ∷ rest ≡ all → Cut (mark_lines (place_of a) all) (G.seen (tray_of a)) (G.seen (tray_of b))

@@ -20,6 +20,7 @@ use ps_subset::PROLOG;
 pub struct Emitter<'a, T: Tray> {
     tray: &'a mut T,
     comments: bool,
+    fonts: u32,
     x: i64,
     y: i64,
     line: Line,
@@ -27,19 +28,22 @@ pub struct Emitter<'a, T: Tray> {
 }
 
 impl<'a, T: Tray> Emitter<'a, T> {
-    ghost use Rattle.ps_emit.specs.Shown.{Stays, comments_of, loan_of, place_of, tray_of};
+    ghost use Rattle.ps_emit.specs.Shown.{Stays, comments_of, fonts_of, loan_of, place_of, tray_of};
     ghost use Rattle.ps_emit.specs.Setup.{prologue_of, trailer_of};
     ghost use Rattle.ps_subset.specs.Blocks.{block_lines, headers_lines};
 
-    /// A writer to this tray; without `comments` it leaves the structured comments out.
+    /// A writer to this tray; without `comments` it leaves the structured comments out. Its text has no fonts, so that it takes no
+    /// glyph.
     pub fn new(tray: &'a mut T, comments: bool) -> Emitter<'a, T>
         ensures tray { tray_of result ≡ tray.old }
         ensures loan { loan_of result ≡ tray.entry.ghost_name }
         ensures comments { comments_of result ≡ comments }
+        ensures fonts { fonts_of result ≡ 0 }
     {
         Emitter {
             tray,
             comments,
+            fonts: 0,
             x: 0,
             y: 0,
             line: Line::new(),
@@ -151,6 +155,7 @@ impl<'a, T: Tray> Emitter<'a, T> {
             (T.seen (tray_of self.old)) (T.seen (tray_of self.new)) result }
         ensures loan { loan_of self.new ≡ loan_of self.old }
         ensures comments { comments_of self.new ≡ comments_of self.old }
+        ensures fonts { fonts_of self.new ≡ fonts_of self.old }
         ensures place { place_of self.new ≡ record { x = x; y = y } }
     {
         items::rule(&mut self.line, (self.x, self.y), (x, y), columns, rows);
@@ -183,7 +188,7 @@ impl<'a, T: Tray> Canvas for Emitter<'a, T> {
 
     ghost refuses = { λ old new marks mark fault. Refused old new marks mark };
 
-    /// Writes nothing: a text has no fonts yet, so no glyph can be given.
+    /// Writes nothing. Its condition asks that the text has the glyph's font, and no call gives a text a font yet.
     fn glyph(&mut self, _mark: &GlyphMark) -> Result<(), WriteFault> {
         Ok(())
     }

@@ -6,7 +6,7 @@ use Rattle.ps_emit.proofs.Lines.{blocks_more, blocks_split}
 use Rattle.ps_emit.proofs.emitter.Emitter.blocks.Goals as goal
 
 pub loop-header-init : goal.loop-header-init
-loop-header-init g c = record { begun = c.requires; wrote = wrote_nothing _; stays = record { loan_same = refl; comments_same = refl; place_same = refl } }
+loop-header-init g c = record { begun = c.requires; wrote = wrote_nothing _; stays = record { loan_same = refl; comments_same = refl; fonts_same = refl; place_same = refl } }
 
 pub loop-header-preserved : goal.loop-header-preserved
 loop-header-preserved g c =

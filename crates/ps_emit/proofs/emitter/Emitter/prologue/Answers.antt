@@ -17,3 +17,7 @@ returns-clause-writes g c =
     then_writes _ _ _ _ _ _ (rw c.head.ensures at c.in_ok-put_line.ensures.writes)
     (then_writes _ _ _ _ _ _ c.in_ok-put.ensures.writes
     (then_writes _ _ _ _ _ _ c.in_ok-blocks.ensures.writes (rw c.job.ensures at c.put_line-2.ensures.writes)))
+
+pub returns-in_err-put_line-clause-writes : goal.returns-in_err-put_line-clause-writes
+returns-in_err-put_line-clause-writes g c =
+    cut_writes _ _ _ _ c.from_residual.ensures.0 (cut_longer _ _ _ _ (rw c.head.ensures at c.in_err-put_line.ensures.writes))

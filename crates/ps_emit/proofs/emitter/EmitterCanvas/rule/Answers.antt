@@ -14,6 +14,7 @@ returns-clause-ok g c =
     (rw (to_z-of_z w64 c.args.mark.now.x x, to_z-of_z w64 c.args.mark.now.y y, to_z-of_z w64 c.args.mark.now.w columns, to_z-of_z w64 c.args.mark.now.rows rows) at c.painted.ensures.writes)
     c.painted.ensures.loan
     c.painted.ensures.comments
+    c.painted.ensures.fonts
     (rw (to_z-of_z w64 c.args.mark.now.x x, to_z-of_z w64 c.args.mark.now.y y) at c.painted.ensures.place)
 
 pub returns-clause-err : goal.returns-clause-err
