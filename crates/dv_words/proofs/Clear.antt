@@ -1,13 +1,13 @@
 -- No word of a tool can be read in two ways, and each reading can be ended.
-use Rattle.std.proofs.Common.{◌≡◌, ℕ, List, [], ◌∷◌, ◌++◌, Option, Some, None, Bool, true, false, nat_eq, if◌then◌else◌, refl, sym, ap, ◌∙◌, subst, inl, inr, ◌⊎◌, eqb-true, not}
+use Rattle.std.proofs.Common.{◌≡◌, ℕ, List, [], ◌∷◌, ◌++◌, Option, Some, None, Bool, true, false, nat_eq, refl, sym, ◌∙◌, subst, inl, inr, eqb-true}
 use Rattle.std.specs.Prelude.{codes}
-use Rattle.std.specs.Option.{is_some, is_none}
-use Rattle.dv_words.specs.Grammar.{Front, Grammar, is_option, In, Reads}
+use Rattle.std.specs.Option.{is_some}
+use Rattle.dv_words.specs.Grammar.{Front, is_option, In, Reads}
 use Rattle.dv_words.specs.Grammar.Reads.{nothing, name}
-use Rattle.dv_words.specs.Stepping.{opened, Opened}
+use Rattle.dv_words.specs.Stepping.{opened}
 use Rattle.dv_words.specs.Draft.{Draft}
 use Rattle.dv_words.specs.Settings.{reads}
-use Rattle.dv_words.specs.Tools.{grammar, fronts_of, dvips_fronts, dvitype_fronts, dvicopy_fronts, takes_name}
+use Rattle.dv_words.specs.Tools.{grammar, fronts_of, dvips_fronts, dvitype_fronts, dvicopy_fronts}
 use Rattle.dv_words.specs.declared.setting.Setting.{Setting}
 use Rattle.dv_words.specs.declared.setting.Setting.TheVariants as setting
 use Rattle.dv_words.specs.declared.tool.Tool.{Tool}

@@ -5,3 +5,7 @@ pub mod Cuts
 pub mod Lists
 pub mod Taking
 pub mod Whole
+pub mod Index
+pub mod Reach
+pub mod Kept
+pub mod Spanned

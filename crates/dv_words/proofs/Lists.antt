@@ -1,12 +1,12 @@
 -- Lists of windows, from the front.
-use Rattle.std.proofs.Common.{◌≡◌, ◌<◌, ◌≤◌, ◌+◌, ℕ, zero, suc, List, [], ◌∷◌, ◌++◌, Option, Some, None, Bool, true, false, nat_lt, length, take, drop, get_or, if◌then◌else◌, append_assoc, arith, refl, sym, ap, ◌∙◌, subst, add-one, All, lt-ltb, le-ltb}
-use Rattle.std.specs.List.{position_or_len, before_first, after_first, slice_split}
+use Rattle.std.proofs.Common.{◌≡◌, ◌<◌, ◌≤◌, ◌+◌, ℕ, zero, suc, List, [], ◌∷◌, ◌++◌, Option, Some, None, true, false, length, take, drop, append_assoc, arith, refl, sym, ap, ◌∙◌, add-one, All, lt-ltb, le-ltb}
+use Rattle.std.specs.List.{position_or_len}
 use Rattle.std.proofs.lemmas.List.{take_all, length-drop, append-nil}
 use Rattle.std.proofs.lemmas.List.Sums.{fails_before_first}
 use Rattle.std.proofs.lemmas.List.Splits.{slice_split_first, slice_split_none}
 use Rattle.dv_words.specs.Numbers.{page_number}
 use Rattle.specials.specs.Commas.{is_comma}
-use Rattle.dv_words.specs.Windows.{Adds, both, is_dash, join, all_windows, window_of, windows_of}
+use Rattle.dv_words.specs.Windows.{Adds, both, is_dash, join, window_of, windows_of}
 use Rattle.dv_words.specs.declared.pages.Window.{Window}
 
 drop_one : {X : Type 0} (xs : List X) (n : ℕ) → drop 1 (drop n xs) ≡ drop (n + 1) xs

@@ -1,9 +1,9 @@
 -- Reading word by word, against reading item by item.
-use Rattle.std.proofs.Common.{◌≡◌, ◌<◌, ◌≤◌, ◌+◌, ℕ, List, [], ◌∷◌, ◌++◌, length, take, get_or, Option, Some, None, Bool, true, false, nat_eq, if◌then◌else◌, arith, refl, sym, ap, ◌∙◌, subst, inl, inr, ◌⊎◌, ◌&&◌, eqb-true, eq-eqb}
+use Rattle.std.proofs.Common.{◌≡◌, ◌<◌, ◌+◌, ℕ, List, [], ◌∷◌, ◌++◌, length, take, get_or, Option, Some, None, Bool, true, false, nat_eq, if◌then◌else◌, arith, refl, sym, ap, ◌∙◌, subst, inl, inr, ◌⊎◌, ◌&&◌, eqb-true, eq-eqb}
 use Rattle.std.proofs.lemmas.List.{take_all, take_more, append-nil}
 use Rattle.dv_words.specs.Grammar.{Front, Grammar, is_option, In, Reads, Accepts}
 use Rattle.dv_words.specs.Grammar.Reads.{nothing, name, together, apart}
-use Rattle.dv_words.specs.Stepping.{cut, Opened, fit, fits, or_else, opened, State, changed, with_rest, begun, named, step, and_then, run, is_end}
+use Rattle.dv_words.specs.Stepping.{cut, Opened, fit, or_else, opened, State, changed, with_rest, begun, named, step, and_then, run, is_end}
 use Rattle.dv_words.specs.Stepping.State.{Ready, Waits}
 use Rattle.dv_words.specs.Language.{Begins, IsWrongAt}
 

@@ -1,21 +1,20 @@
 -- What taking a word does to a reading.
-use Rattle.std.proofs.Common.{◌≡◌, ◌<◌, ◌≤◌, ◌+◌, ℕ, List, [], ◌∷◌, length, take, map, get_or, Option, Some, None, Bool, true, false, not, arith, refl, sym, ap, ◌∙◌, subst}
+use Rattle.std.proofs.Common.{◌≡◌, ◌<◌, ◌≤◌, ◌+◌, ℕ, List, length, take, map, get_or, Option, Some, None, true, false, arith, refl, sym, ap, ◌∙◌, subst}
 use Rattle.std.specs.Option.{is_some}
 use Rattle.std.proofs.Math.ListN.{get_or-map}
 use Rattle.std.proofs.lemmas.List.{length-map, take_all}
-use Rattle.dv_words.specs.Grammar.{Grammar, is_option, Reads, Accepts}
-use Rattle.dv_words.specs.Stepping.{State, named, step, run, is_end}
-use Rattle.dv_words.specs.Stepping.State.{Ready, Waits}
-use Rattle.dv_words.specs.Draft.{Draft, is_whole, no_draft}
+use Rattle.dv_words.specs.Grammar.{is_option, Accepts}
+use Rattle.dv_words.specs.Stepping.{named, step, run, is_end}
+use Rattle.dv_words.specs.Stepping.State.{Ready}
+use Rattle.dv_words.specs.Draft.{Draft, no_draft}
 use Rattle.dv_words.specs.Tools.{grammar, takes_name}
-use Rattle.dv_words.specs.Steps.{NameGives, StepGives, state_after}
+use Rattle.dv_words.specs.Steps.{NameGives, StepGives}
 use Rattle.dv_words.specs.Views.{state_of}
 use Rattle.dv_words.specs.Outcome.{IsJobOf}
 use Rattle.dv_words.specs.Jobs.{Job, HasJob}
 use Rattle.dv_words.specs.Language.{IsWrongAt}
 use Rattle.dv_words.specs.declared.setting.Setting.{Setting}
 use Rattle.dv_words.specs.declared.tool.Tool.{Tool}
-use Rattle.dv_words.specs.declared.step.Taken.{Taken}
 use Rattle.dv_words.specs.declared.step.Taken.TheVariants as taken
 use Rattle.dv_words.proofs.Machine.{run_more, wrong_word, wrong_end, sound}
 use Rattle.dv_words.proofs.Clear.{clear, live}

@@ -1,5 +1,5 @@
 -- Languages behind a first word.
-use Rattle.std.proofs.Common.{◌≡◌, ◌<◌, ◌≤◌, ◌+◌, ℕ, zero, suc, List, [], ◌∷◌, ◌++◌, length, take, Some, None, arith, refl, sym, ap, ◌∙◌, subst, inl, inr, ◌⊎◌, add-one}
+use Rattle.std.proofs.Common.{◌≡◌, ◌<◌, ◌+◌, ℕ, List, [], ◌∷◌, ◌++◌, length, take, arith, refl, inl, inr, ◌⊎◌, add-one}
 use Rattle.dv_words.specs.Language.{Begins, IsWrongAt}
 
 module _ (Accepted : List (List ℕ) → Type 0) where

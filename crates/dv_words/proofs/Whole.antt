@@ -1,5 +1,5 @@
 -- The words of a run, by their first word.
-use Rattle.std.proofs.Common.{◌≡◌, ◌<◌, ◌≤◌, ◌+◌, ◌≢◌, ℕ, List, [], ◌∷◌, ◌++◌, length, take, drop, map, get_or, true, Option, Some, None, arith, refl, sym, ap, ◌∙◌, subst, inl, inr, add-one}
+use Rattle.std.proofs.Common.{◌≡◌, ◌<◌, ◌≤◌, ◌+◌, ℕ, List, [], ◌∷◌, ◌++◌, length, drop, map, get_or, true, Option, Some, None, arith, refl, sym, ap, ◌∙◌, subst, inl, inr}
 use Rattle.std.specs.Prelude.{codes}
 use Rattle.std.proofs.Common.{nat_eq, false}
 use Rattle.std.specs.Cmp.Lexicographic.{pointwise}
@@ -7,9 +7,12 @@ use Rattle.dv_words.specs.Outcome.{IsCause, IsJobOf}
 use Rattle.dv_words.specs.declared.fault.WordFault.{WordFault}
 use Rattle.dv_words.specs.declared.fault.WordFault.TheVariants.{Bad, OutOfMemory}
 use Rattle.std.specs.Option.{is_some}
-use Rattle.dv_words.proofs.Machine.{true_false}
-use Rattle.dv_words.proofs.Clear.{some_of}
-use Rattle.dv_words.specs.Grammar.{Grammar, Reads, Accepts}
+use Rattle.dv_words.proofs.Machine.{complete, true_false}
+use Rattle.dv_words.proofs.Clear.{clear, some_of}
+use Rattle.dv_words.specs.Stepping.{State}
+use Rattle.dv_words.specs.Stepping.State.{Ready}
+use Rattle.dv_words.specs.declared.setting.Setting.{Setting}
+use Rattle.dv_words.specs.Grammar.{Reads, Accepts}
 use Rattle.dv_words.specs.Draft.{Draft, no_draft}
 use Rattle.dv_words.specs.Language.{Begins, IsWrongAt}
 use Rattle.dv_words.specs.Numbers.{number_from}
@@ -163,3 +166,35 @@ module _ {X : Type 0} (f : X → List ℕ) where
   sample_one p [] x h k is n = absurd (omega arith)
   sample_one p (y ∷ []) x h k is n = (f y, refl, ap (λ z. number_from 1 1000 (f z)) (sym is) ∙ n)
   sample_one p (y ∷ (z ∷ ys)) x h k is n = absurd (omega arith)
+
+-- words are read in one way, and so they ask for one job
+same_draft : (t : Tool) (words : List (List ℕ)) (d e : Draft) → Reads (grammar t) words no_draft d → Reads (grammar t) words no_draft e → d ≡ e
+same_draft t words d e x y = ready d e (sym (complete (grammar t) (clear t) x) ∙ complete (grammar t) (clear t) y) where
+  ready : (d e : Draft) → ◌≡◌ {A = Option (State Setting Draft)} (Some (Ready d)) (Some (Ready e)) → d ≡ e
+  ready d e h = cc
+
+same_has : (t : Tool) (d e : Draft) (a b : Job) → d ≡ e → HasJob t d a → HasJob t e b → a ≡ b
+same_has t d e a b same x y =
+    let input : ◌≡◌ {A = Option (List ℕ)} (Some x.0) (Some y.0) = sym x.1 ∙ ap (λ (k : Draft). k.input) same ∙ y.1 in
+    let names : x.0 ≡ y.0 = cc in
+    x.2 ∙ ap (λ (n : List ℕ). job_of t n d) names ∙ ap (λ (k : Draft). job_of t y.0 k) same ∙ sym y.2
+
+behind_same_tool : (t : Tool) (d : Draft) (word : List ℕ) (words : List (List ℕ)) (a b : Job) → word ≡ name_of_tool t → Reads (grammar t) words no_draft d
+    → HasJob t d a → Asks (word ∷ words) b → a ≡ b
+behind_same_tool t d word words a b named reads has (tool {draft = e} u named_too reads_too has_too) =
+    let same : u ≡ t = same_tool u t (sym named_too ∙ named) in
+    let R : Tool → Type 0 = λ x. Reads (grammar x) words no_draft e in
+    let H : Tool → Type 0 = λ x. HasJob x e b in
+    same_has t d e a b (same_draft t words d e reads (subst R same reads_too)) has (subst H same has_too)
+behind_same_tool t d word words a b named reads has (sample named_too number) = absurd (no_sample t (sym named ∙ named_too))
+
+same_sample : (word number : List ℕ) (pages : ℕ) (b : Job) → word ≡ codes "sample" → number_from 1 1000 number ≡ Some pages → Asks (word ∷ (number ∷ [])) b → Sampling pages ≡ b
+same_sample word number pages b named read (tool u named_too reads has) = absurd (no_sample u (sym named_too ∙ named))
+same_sample word number pages b named read (sample {pages = more} named_too read_too) =
+    let both : ◌≡◌ {A = Option ℕ} (Some pages) (Some more) = sym read ∙ read_too in
+    let same : pages ≡ more = cc in
+    ap Sampling same
+
+pub same_job : (words : List (List ℕ)) (a b : Job) → Asks words a → Asks words b → a ≡ b
+same_job words a b (tool {word = w} {words = ws} {draft = d} t named reads has) y = behind_same_tool t d w ws a b named reads has y
+same_job words a b (sample {word = w} {number = n} {pages = p} named read) y = same_sample w n p b named read y

@@ -1,5 +1,4 @@
 -- What contracts see of the program's jobs.
-use Rattle.std.specs.Prelude.{map}
 use Rattle.dv_base.specs.FileName.{text_of}
 use Rattle.dv_words.specs.Jobs.{PrintJob, ListJob, CopyJob, Job}
 use Rattle.dv_words.specs.Jobs.Job.{Printing, Listing, Copying, Sampling}

@@ -1,5 +1,5 @@
 -- The jobs that words ask for, and the job of a draft that has an input.
-use Rattle.std.specs.Prelude.{◌≡◌, ℕ, ℤ, List, [], ◌∷◌, Bool, true, false, Option, Some, None, codes, ◌||◌}
+use Rattle.std.specs.Prelude.{◌≡◌, ℕ, ℤ, List, [], ◌∷◌, Bool, false, Option, Some, None, codes, ◌||◌}
 use Rattle.std.specs.Option.{option_map, unwrap_or}
 use Rattle.dv_words.specs.Draft.{Draft}
 use Rattle.dv_words.specs.Names.{printed_name}

@@ -15,3 +15,9 @@ pub mod Views
 pub mod OpenedView
 pub mod Steps
 pub mod Outcome
+pub mod Finding
+pub mod PageIndex
+pub mod Selection
+pub mod Chosen
+pub mod Absent
+pub mod Repeated

@@ -1,5 +1,4 @@
 -- What the reader's own contracts see of the option that a word begins with. No public clause cites it.
-use Rattle.std.specs.Prelude.{ℕ, List, Option, Some, None}
 use Rattle.std.specs.Option.{option_map}
 use Rattle.dv_words.specs.Stepping.{Opened}
 use Rattle.dv_words.specs.declared.opened.Opened.{Opened as TheOpened}

@@ -1,5 +1,5 @@
 -- The answers of reading the words behind a tool's name.
-use Rattle.std.specs.Prelude.{◌≡◌, ℕ, List}
+use Rattle.std.specs.Prelude.{ℕ, List}
 use Rattle.dv_words.specs.Draft.{Draft, no_draft}
 use Rattle.dv_words.specs.Grammar.{Reads, Accepts}
 use Rattle.dv_words.specs.Jobs.{Job, HasJob}

@@ -1,5 +1,5 @@
 -- What each option sets, and after what it may stand.
-use Rattle.std.specs.Prelude.{◌≡◌, ℕ, ℤ, pos, List, [], ◌∷◌, ◌++◌, Bool, true, false, not, Option, Some, None, nat_eq, nat_lt, int_lt, length, codes, ◌&&◌, if◌then◌else◌}
+use Rattle.std.specs.Prelude.{ℕ, ℤ, pos, List, [], ◌∷◌, ◌++◌, Bool, true, false, not, Option, Some, None, nat_eq, nat_lt, int_lt, length, codes, ◌&&◌, if◌then◌else◌}
 use Rattle.std.specs.List.{before_first, after_first}
 use Rattle.std.specs.Option.{option_map, option_zip, is_none}
 use Rattle.specials.specs.Commas.{is_comma}

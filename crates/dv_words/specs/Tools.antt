@@ -1,6 +1,5 @@
 -- The grammar of each tool's words.
-use Rattle.std.specs.Prelude.{◌≡◌, ℕ, List, [], ◌∷◌, ◌++◌, Bool, true, false, not, Option, Some, None, codes}
-use Rattle.std.specs.Option.{is_none, option_map}
+use Rattle.std.specs.Prelude.{ℕ, List, [], ◌∷◌, ◌++◌, true, false, Option, Some, None, codes}
 use Rattle.dv_words.specs.Grammar.{Front, Grammar}
 use Rattle.dv_words.specs.Draft.{Draft, is_whole}
 use Rattle.dv_words.specs.Names.{name_of, with_dvi}

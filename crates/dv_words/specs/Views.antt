@@ -1,10 +1,10 @@
 -- What the reader's own contracts see of its values. No public clause cites it.
-use Rattle.std.specs.Prelude.{◌≡◌, ℕ, List, map, Bool, true, false, Option, Some, None}
+use Rattle.std.specs.Prelude.{◌≡◌, map, Bool, true, false, Option, Some, None}
 use Rattle.std.specs.Option.{option_map}
 use Rattle.dv_base.specs.FileName.{text_of}
 use Rattle.dv_words.specs.Draft.{Draft}
 use Rattle.dv_words.specs.Grammar.{Front}
-use Rattle.dv_words.specs.Stepping.{Opened, State}
+use Rattle.dv_words.specs.Stepping.{State}
 use Rattle.dv_words.specs.Stepping.State.{Ready, Waits}
 use Rattle.dv_words.specs.declared.draft.Draft.{Draft as TheDraft}
 use Rattle.dv_words.specs.declared.tool.Front.{Front as TheFront}

@@ -24,14 +24,20 @@
 mod draft;
 mod fault;
 mod job;
+mod laws;
 mod names;
 mod number;
 mod opened;
+mod page_index;
 mod pages;
 mod ranges;
 mod read;
 mod requested;
+mod selection;
+#[cfg(test)]
+mod selection_tests;
 mod setting;
+mod spans;
 mod step;
 #[cfg(test)]
 mod tests;
@@ -41,6 +47,8 @@ mod words;
 
 pub use fault::WordFault;
 pub use job::{CopyJob, Job, ListJob, PrintJob};
+pub use laws::one_job;
 pub use names::Names;
 pub use pages::{Parity, Window, WindowList, Windows};
+pub use selection::{SelectFault, select};
 pub use words::read_words;

@@ -1,5 +1,5 @@
 //! Examples of words.
-use crate::{Job, Parity, PrintJob, Windows, WordFault, read_words};
+use crate::{Job, Parity, PrintJob, Window, Windows, WordFault, read_words};
 use std::alloc::Global;
 use std::test::Fail;
 
@@ -137,39 +137,45 @@ fn first_wrong_words(rt: HostRuntime) -> Result<(), Fail> {
     Ok(())
 }
 
-/// Tools and options that take a number, what stands between option and number in one word, the least number and the greatest.
-const NUMBERS: [(&str, &str, &str, i64, i64); 20] = [
-    ("dvips", "-n", "", 1, 1_000_000),
-    ("dvips", "-c", "", 1, 999),
-    ("dvips", "-C", "", 1, 999),
-    ("dvips", "-x", "", 10, 100_000),
-    ("dvips", "-D", "", 10, 10_000),
-    ("dvips", "-X", "", 10, 10_000),
-    ("dvips", "-Y", "", 10, 10_000),
-    ("dvips", "-S", "", 1, 1_000_000),
-    ("dvips", "-e", "", 0, 1_000),
-    ("dvitype", "-max-pages", "=", 1, 1_000_000),
-    ("dvitype", "--max-pages", "=", 1, 1_000_000),
-    ("dvitype", "-dpi", "=", 10, 10_000),
-    ("dvitype", "--dpi", "=", 10, 10_000),
-    ("dvitype", "-magnification", "=", 10, 100_000),
-    ("dvitype", "--magnification", "=", 10, 100_000),
-    ("dvitype", "-detail", "=", 0, 1),
-    ("dvitype", "--detail", "=", 0, 1),
-    ("dvicopy", "-max-pages", "=", 1, 1_000_000),
-    ("dvicopy", "--magnification", "=", 10, 100_000),
-    ("dvicopy", "-page-start", "=", -2_147_483_648, 2_147_483_647),
+/// Tools and options that take a number, what stands between option and number in one word, and the least number, the greatest, and
+/// those outside.
+const NUMBERS: [(&str, &str, &str, [i64; 4]); 20] = [
+    ("dvips", "-n", "", [1, 1_000_000, 0, 1_000_001]),
+    ("dvips", "-c", "", [1, 999, 0, 1_000]),
+    ("dvips", "-C", "", [1, 999, 0, 1_000]),
+    ("dvips", "-x", "", [10, 100_000, 9, 100_001]),
+    ("dvips", "-D", "", [10, 10_000, 9, 10_001]),
+    ("dvips", "-X", "", [10, 10_000, 9, 10_001]),
+    ("dvips", "-Y", "", [10, 10_000, 9, 10_001]),
+    ("dvips", "-S", "", [1, 1_000_000, 0, 1_000_001]),
+    ("dvips", "-e", "", [0, 1_000, -1, 1_001]),
+    ("dvitype", "-max-pages", "=", [1, 1_000_000, 0, 1_000_001]),
+    ("dvitype", "--max-pages", "=", [1, 1_000_000, 0, 1_000_001]),
+    ("dvitype", "-dpi", "=", [10, 10_000, 9, 10_001]),
+    ("dvitype", "--dpi", "=", [10, 10_000, 9, 10_001]),
+    ("dvitype", "-magnification", "=", [10, 100_000, 9, 100_001]),
+    ("dvitype", "--magnification", "=", [10, 100_000, 9, 100_001]),
+    ("dvitype", "-detail", "=", [0, 1, -1, 2]),
+    ("dvitype", "--detail", "=", [0, 1, -1, 2]),
+    ("dvicopy", "-max-pages", "=", [1, 1_000_000, 0, 1_000_001]),
+    ("dvicopy", "--magnification", "=", [10, 100_000, 9, 100_001]),
+    (
+        "dvicopy",
+        "-page-start",
+        "=",
+        [-2_147_483_648, 2_147_483_647, -2_147_483_649, 2_147_483_648],
+    ),
 ];
 
 #[test]
 fn numbers_in_their_ranges(rt: HostRuntime) -> Result<(), Fail> {
     let alloc = rt.alloc();
-    for (tool, option, sign, low, high) in NUMBERS {
+    for (tool, option, sign, [low, high, below, above]) in NUMBERS {
         for (number, joined, apart) in [
             (low, None, None),
             (high, None, None),
-            (low - 1, Some(1), Some(2)),
-            (high + 1, Some(1), Some(2)),
+            (below, Some(1), Some(2)),
+            (above, Some(1), Some(2)),
         ] {
             let line = format!(in alloc; "{tool} {option}{sign}{number} a")?;
             assert_eq!(rt; wrong(alloc, &line)?, joined, "{line}");
@@ -209,151 +215,207 @@ fn up_to_64_headers(rt: HostRuntime) -> Result<(), Fail> {
     Ok(())
 }
 
-#[test]
-fn jobs_of_dvips(rt: HostRuntime) -> Result<(), Fail> {
-    let alloc = rt.alloc();
-    let job = printed(alloc, "dvips a")?;
-    assert_eq!(rt; job.input.as_str(), "a.dvi");
-    assert_eq!(rt; job.output.as_str(), "a.ps");
-    assert!(rt; matches!(&job.windows, Windows::All));
-    assert_eq!(rt;
-        (job.limit, job.reverse, job.parity, job.copies, job.collated),
-        (None, false, Parity::All, 1, 1)
-    );
-    assert_eq!(rt;
-        (job.mag, job.dpi, job.per_section, job.paper, job.offset),
-        (None, (600, 600), None, None, (0, 0))
-    );
-    assert_eq!(rt;
-        (job.quiet, job.comments, job.drift, job.memory, job.pass_ps),
-        (false, true, 2, 16_000_000, false)
-    );
-    let line =
-        "dvips -n 7 -r -B -c 2 -C3 -x 500 -S 9 -h x -q -N -o - -e1 --memory=5 --pass=ps -h x -t a4 -T 1in,2in -O -1sp,2sp b.dvi";
-    let job = printed(alloc, line)?;
-    assert_eq!(rt; job.input.as_str(), "b.dvi");
-    assert_eq!(rt; job.output.as_str(), "-");
-    assert_eq!(rt;
-        (job.limit, job.reverse, job.parity, job.copies, job.collated),
-        (Some(7), true, Parity::Even, 2, 3)
-    );
-    assert_eq!(rt;
-        (job.mag, job.per_section, job.paper, job.offset),
-        (Some(500), Some(9), Some((4_736_286, 9_472_573)), (-1, 2))
-    );
-    assert_eq!(rt;
-        (job.quiet, job.comments, job.drift, job.memory, job.pass_ps),
-        (true, false, 1, 5, true)
-    );
-    assert_eq!(rt; job.headers.as_slice().len(), 2);
-    Ok(())
+/// Whether the job is what dvips does where only an input is named.
+fn has_defaults(job: &PrintJob) -> bool {
+    job.limit.is_none()
+        && !job.reverse
+        && job.parity == Parity::All
+        && job.copies == 1
+        && job.collated == 1
+        && job.mag.is_none()
+        && job.dpi == (600, 600)
+        && job.per_section.is_none()
+        && job.headers.as_slice().is_empty()
+        && !job.quiet
+        && job.comments
+        && job.paper.is_none()
+        && job.offset == (0, 0)
+        && job.drift == 2
+        && job.memory == 16_000_000
+        && !job.pass_ps
+        && matches!(&job.windows, Windows::All)
+}
+
+const ALL_OPTIONS: &str =
+    "dvips -n 7 -r -B -c 2 -C3 -x 500 -S 9 -h x -q -N -o - -e1 --memory=5 --pass=ps -h x -t a4 -T 1in,2in -O -1sp,2sp b.dvi";
+
+/// Whether the job is that of all options.
+fn has_all_options(job: &PrintJob) -> bool {
+    job.limit == Some(7)
+        && job.reverse
+        && job.parity == Parity::Even
+        && job.copies == 2
+        && job.collated == 3
+        && job.mag == Some(500)
+        && job.per_section == Some(9)
+        && job.headers.as_slice().len() == 2
+        && job.quiet
+        && !job.comments
+        && job.paper == Some((4_736_286, 9_472_573))
+        && job.offset == (-1, 2)
+        && job.drift == 1
+        && job.memory == 5
+        && job.pass_ps
 }
 
 #[test]
-fn names_and_resolutions(rt: HostRuntime) -> Result<(), Fail> {
+fn jobs_of_dvips(rt: HostRuntime) -> Result<(), Fail> {
     let alloc = rt.alloc();
+    assert!(rt; has_defaults(&printed(alloc, "dvips a")?));
+    assert!(rt; has_all_options(&printed(alloc, ALL_OPTIONS)?));
     let names = [
-        ("-", "-", "-"),
-        ("a.dvi.dvi", "a.dvi.dvi", "a.dvi.ps"),
-        (".dvi", ".dvi", ".ps"),
-        ("a.DVI", "a.DVI.dvi", "a.DVI.ps"),
+        ("dvips a", "a.dvi", "a.ps"),
+        ("dvips -", "-", "-"),
+        ("dvips a.dvi.dvi -o x", "a.dvi.dvi", "x"),
+        ("dvips .dvi", ".dvi", ".ps"),
+        ("dvips a.DVI", "a.DVI.dvi", "a.DVI.ps"),
     ];
-    for (name, input, output) in names {
-        let job = printed(alloc, &format!(in alloc; "dvips {name}")?)?;
-        assert_eq!(rt; job.input.as_str(), input);
-        assert_eq!(rt; job.output.as_str(), output);
-    }
-    let resolutions = [
-        ("-D 300", (300, 300)),
-        ("-X 300", (300, 600)),
-        ("-Y 300", (600, 300)),
-        ("-D 600 -X 300", (300, 600)),
-        ("-X 300 -D 600", (600, 600)),
-        ("-X300 -Y100 -X200", (200, 100)),
-    ];
-    for (options, dpi) in resolutions {
-        assert_eq!(rt;
-            printed(alloc, &format!(in alloc; "dvips {options} a")?)?.dpi,
-            dpi,
-            "{options}"
+    for (line, input, output) in names {
+        let job = printed(alloc, line)?;
+        assert!(rt;
+            job.input.as_str() == input && job.output.as_str() == output,
+            "{line}"
         );
     }
+    let resolutions = [
+        ("dvips a -D 300", (300, 300)),
+        ("dvips a -X 300", (300, 600)),
+        ("dvips a -Y 300", (600, 300)),
+        ("dvips a -D 600 -X 300", (300, 600)),
+        ("dvips a -X 300 -D 600", (600, 600)),
+        ("dvips a -X300 -Y100 -X200", (200, 100)),
+    ];
+    for (line, dpi) in resolutions {
+        assert!(rt; printed(alloc, line)?.dpi == dpi, "{line}");
+    }
     Ok(())
+}
+
+/// Whether the words choose one window, and it is this.
+fn is_one(windows: &Windows, wanted: (Option<i64>, Option<i64>, bool)) -> bool {
+    match windows {
+        Windows::One {
+            first,
+            last,
+            physical,
+        } => (*first, *last, *physical) == wanted,
+        _ => false,
+    }
+}
+
+/// Whether the words choose several windows, and they are these.
+fn are_many(windows: &Windows, wanted: &[Window]) -> bool {
+    match windows {
+        Windows::Many(list) => list.as_slice() == wanted,
+        _ => false,
+    }
 }
 
 #[test]
 fn windows_of_dvips(rt: HostRuntime) -> Result<(), Fail> {
     let alloc = rt.alloc();
     let ones = [
-        ("-p 2", (Some(2), None, false)),
-        ("-l=2", (None, Some(2), true)),
-        ("-p -2 -l =3", (Some(-2), Some(3), true)),
-        ("-p =2 -l 3", (Some(2), Some(3), true)),
-        ("-p =2 -p 4 -l 3", (Some(4), Some(3), false)),
+        ("dvips a -p 2", (Some(2), None, false)),
+        ("dvips a -l=2", (None, Some(2), true)),
+        ("dvips a -p -2 -l =3", (Some(-2), Some(3), true)),
+        ("dvips a -p =2 -l 3", (Some(2), Some(3), true)),
+        ("dvips a -p =2 -p 4 -l 3", (Some(4), Some(3), false)),
     ];
-    for (options, window) in ones {
-        let Windows::One {
-            first,
-            last,
-            physical,
-        } = printed(alloc, &format!(in alloc; "dvips {options} a")?)?.windows
-        else {
-            return Err(Fail::from(options));
-        };
-        assert_eq!(rt; (first, last, physical), window, "{options}");
+    for (line, window) in ones {
+        assert!(rt; is_one(&printed(alloc, line)?.windows, window), "{line}");
     }
-    let Windows::Many(list) = printed(alloc, "dvips -pp -1,1:2 -pp -3--2 a")?.windows else {
-        return Err(Fail::from("windows"));
-    };
-    let many = [(-1, -1), (1, 2), (-3, -2)];
-    assert_eq!(rt; list.as_slice().len(), 3);
-    for (window, (first, last)) in list.as_slice().iter().zip(many) {
-        assert_eq!(rt; (window.first, window.last), (first, last));
-    }
+    let many = [
+        Window {
+            first: -1,
+            last: -1,
+        },
+        Window { first: 1, last: 2 },
+        Window {
+            first: -3,
+            last: -2,
+        },
+    ];
+    assert!(rt;
+        are_many(
+            &printed(alloc, "dvips -pp -1,1:2 -pp -3--2 a")?.windows,
+            &many
+        )
+    );
     Ok(())
 }
 
-#[test]
-fn jobs_of_dvitype_and_dvicopy(rt: HostRuntime) -> Result<(), Fail> {
-    let alloc = rt.alloc();
-    let lists = [
-        ("dvitype a", None, 1_000_000, 300, None, 1),
-        (
-            "dvitype -page-start=-1 --max-pages 3 -dpi 600 --magnification=10 a --detail=0",
-            Some(-1),
-            3,
-            600,
-            Some(10),
-            0,
-        ),
-    ];
-    for (line, start, most, dpi, mag, detail) in lists {
-        let Ok(Job::List(job)) = read(alloc, line) else {
-            return Err(Fail::from(line));
-        };
-        assert_eq!(rt; job.input.as_str(), "a.dvi");
-        assert_eq!(rt;
-            (job.start, job.most, job.dpi, job.mag, job.detail),
-            (start, most, dpi, mag, detail)
-        );
+/// Whether the words ask dvitype for this.
+fn lists(
+    alloc: Global,
+    line: &str,
+    start: Option<i64>,
+    most: u32,
+    dpi: u32,
+    mag: Option<u32>,
+    detail: u8,
+) -> bool {
+    let job = read(alloc, line);
+    match &job {
+        Ok(Job::List(job)) => {
+            job.input.as_str() == "a.dvi"
+                && job.start == start
+                && job.most == most
+                && job.dpi == dpi
+                && job.mag == mag
+                && job.detail == detail
+        }
+        _ => false,
     }
-    let copies = [
-        ("dvicopy -", "-", "-", None, 1_000_000),
-        (
+}
+
+/// Whether the words ask dvicopy for this.
+fn copies(
+    alloc: Global,
+    line: &str,
+    input: &str,
+    output: &str,
+    start: Option<i64>,
+    most: u32,
+) -> bool {
+    let job = read(alloc, line);
+    match &job {
+        Ok(Job::Copy(job)) => {
+            job.input.as_str() == input
+                && job.output.as_str() == output
+                && job.start == start
+                && job.most == most
+                && job.mag.is_none()
+        }
+        _ => false,
+    }
+}
+
+/// Whether the words ask for a sample of so many pages.
+fn samples(alloc: Global, line: &str, wanted: u32) -> bool {
+    let job = read(alloc, line);
+    match &job {
+        Ok(Job::Sample { pages }) => *pages == wanted,
+        _ => false,
+    }
+}
+
+#[test]
+fn jobs_of_the_other_tools(rt: HostRuntime) -> Result<(), Fail> {
+    let alloc = rt.alloc();
+    assert!(rt; lists(alloc, "dvitype a", None, 1_000_000, 300, None, 1));
+    let line = "dvitype -page-start=-1 --max-pages 3 -dpi 600 --magnification=10 a --detail=0";
+    assert!(rt; lists(alloc, line, Some(-1), 3, 600, Some(10), 0));
+    assert!(rt; copies(alloc, "dvicopy -", "-", "-", None, 1_000_000));
+    assert!(rt;
+        copies(
+            alloc,
             "dvicopy a --page-start=0 b -max-pages 2",
             "a.dvi",
             "b.dvi",
             Some(0),
-            2,
-        ),
-    ];
-    for (line, input, output, start, most) in copies {
-        let Ok(Job::Copy(job)) = read(alloc, line) else {
-            return Err(Fail::from(line));
-        };
-        assert_eq!(rt; (job.input.as_str(), job.output.as_str()), (input, output));
-        assert_eq!(rt; (job.start, job.most, job.mag), (start, most, None));
-    }
-    assert!(rt; matches!(read(alloc, "sample 12"), Ok(Job::Sample { pages: 12 })));
+            2
+        )
+    );
+    assert!(rt; samples(alloc, "sample 12", 12));
     Ok(())
 }

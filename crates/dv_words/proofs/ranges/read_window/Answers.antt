@@ -1,5 +1,4 @@
-use Rattle.std.proofs.Common.{◌≡◌, ◌<◌, ◌∙◌, length, arith, ap, sym}
-use Rattle.dv_words.specs.Windows.{both}
+use Rattle.std.proofs.Common.{◌<◌, ◌∙◌, length, arith}
 use Rattle.dv_words.proofs.Lists.{window_cut}
 use Rattle.dv_words.proofs.ranges.read_window.Goals as goal
 

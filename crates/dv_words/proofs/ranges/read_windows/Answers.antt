@@ -1,4 +1,4 @@
-use Rattle.std.proofs.Common.{◌≡◌, ◌<◌, ◌∙◌, ℕ, List, take, drop, length, arith, ap, sym}
+use Rattle.std.proofs.Common.{◌≡◌, ◌<◌, ◌∙◌, ℕ, take, drop, length, arith, ap, sym}
 use Rattle.std.specs.List.{position_or_len}
 use Rattle.specials.specs.Commas.{is_comma}
 use Rattle.dv_words.specs.Windows.{window_of}

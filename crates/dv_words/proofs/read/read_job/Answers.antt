@@ -1,5 +1,4 @@
-use Rattle.std.proofs.Common.{arith, rules, ◌≡◌, sym, None, false, true}
-use Rattle.std.specs.Option.{is_none}
+use Rattle.std.proofs.Common.{sym}
 use Rattle.std.specs.String.{string_bytes}
 use Rattle.dv_words.specs.Stepping.{step}
 use Rattle.dv_words.specs.Tools.{grammar}

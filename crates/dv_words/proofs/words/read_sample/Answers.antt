@@ -1,7 +1,7 @@
-use Rattle.std.proofs.Common.{◌≡◌, ◌∙◌, ap, sym, length, ◌<◌, ◌≤◌, ◌+◌, ℕ, List, arith, Some, None}
+use Rattle.std.proofs.Common.{◌∙◌, ap, sym, arith}
 use Rattle.std.specs.String.{string_bytes}
 use Rattle.dv_words.specs.Numbers.{number_from}
-use Rattle.dv_words.proofs.Whole.{sample_empty, sample_number, sample_more, sample_one}
+use Rattle.dv_words.proofs.Whole.{sample_empty, sample_number}
 use Rattle.dv_words.proofs.words.read_sample.Goals as goal
 
 pub returns-then-is_empty-clause-cause : goal.returns-then-is_empty-clause-cause

@@ -1,4 +1,4 @@
-use Rattle.std.proofs.Common.{◌≡◌, ◌∙◌, ap, sym, length, ◌<◌, arith}
+use Rattle.std.proofs.Common.{◌∙◌, sym, arith}
 use Rattle.std.specs.String.{string_bytes}
 use Rattle.dv_words.specs.JobView.{job_view}
 use Rattle.dv_words.proofs.Whole.{fault_empty, fault_tool, fault_shift, fault_sample, asks_tool, asks_sample}

@@ -1,4 +1,4 @@
-use Rattle.std.proofs.Common.{◌≡◌, ap}
+use Rattle.std.proofs.Common.{ap}
 use Rattle.std.specs.Option.{option_map}
 use Rattle.dv_base.specs.FileName.{text_of}
 use Rattle.dv_words.specs.Jobs.Job.{Printing, Listing, Copying}
