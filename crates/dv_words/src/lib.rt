@@ -14,11 +14,6 @@
 //!     Job::Sample { pages } => {}
 //! }
 //! ```
-//!
-//! A new option is a variant of [`Setting`], a line in the table of its tool, and an arm where [`Draft`] sets its field.
-//!
-//! [`Setting`]: setting::Setting
-//! [`Draft`]: draft::Draft
 #![tactic(auto)]
 
 mod draft;
