@@ -9,3 +9,4 @@ pub mod Lexing
 pub mod TreeLaws
 pub mod Faultless
 pub mod Halting
+pub mod Nops

@@ -17,6 +17,7 @@
 mod fault;
 mod grid;
 mod laws;
+mod nop;
 mod paint;
 mod plain;
 mod shift;

@@ -6,6 +6,7 @@ ghost use Rattle.dvi_doc.specs.Grammar.{AllInner};
 ghost use Rattle.vf_expand.specs.Commands.{AllBare};
 ghost use Rattle.vf_expand.specs.Unbuilt.{IsUnbuilt, IsFirstUnbuilt};
 
+use crate::nop::is_nop;
 use dvi_ops::{Cmd, next_cmd, one_spelling};
 
 /// Whether the command sets a character or selects a font.
@@ -32,6 +33,10 @@ pub fn first_unbuilt(body: &[u8], first: u32) -> Option<u32>
     one_spelling();
     let mut at = 0;
     while at < body.len() {
+        if is_nop(body, at) {
+            at += 1;
+            continue;
+        }
         match next_cmd(body, at) {
             Ok((cmd, end)) => {
                 if is_unbuilt(&cmd) {

@@ -11,6 +11,7 @@ ghost use Rattle.vf_expand.specs.Shallow.{IsShallow};
 
 use crate::fault::WalkFault;
 use crate::grid::Grid;
+use crate::nop::is_nop;
 use crate::turn::{MOST_OPEN, turn};
 use dv_base::{Conv, Spot};
 use dvi_ops::{next_cmd, one_spelling};
@@ -102,6 +103,10 @@ fn walk<C: Canvas>(
     let mut pos = Pos::origin();
     let mut at = 0;
     while at < body.len() {
+        if is_nop(body, at) {
+            at += 1;
+            continue;
+        }
         match next_cmd(body, at) {
             Ok((cmd, end)) => {
                 let place = first + at as u32;

@@ -1,5 +1,6 @@
-use Rattle.std.proofs.Common.{◌≡◌, ◌+◌, ℕ, drop, arith, refl, subst}
+use Rattle.std.proofs.Common.{◌≡◌, ◌<◌, ◌≤◌, ◌+◌, ℕ, length, drop, arith, refl, subst}
 use Rattle.std.proofs.Math.ListN.{drop_of_length-le}
+use Rattle.dvi_ops.specs.Command.Command.{Nop}
 use Rattle.dvi_ops.specs.View.{view}
 use Rattle.dvi_ops.specs.Placed.{Lexes}
 use Rattle.vf_expand.proofs.Frame.{no_fault}
@@ -22,6 +23,15 @@ loop-at-preserved c =
       goes = λ cs l h.
           bare_next c.one_spelling.ensures cs c.args.body.now c.args.first c.loop-at.at c.in-Ok.end (view c.in-Ok.cmd) f.0 f.1 f.2
           (λ u. not_true (c.if-is_unbuilt.ensures.1 u)) (c.loop-at.invariant.goes cs l h);
+    }
+
+pub loop-at-preserved-then-is_nop : goal.loop-at-preserved-then-is_nop
+loop-at-preserved-then-is_nop c =
+    let further : c.loop-at.at < c.loop-at.at + 1 = omega arith in
+    let inside : c.loop-at.at + 1 ≤ length c.args.body.now = omega (arith, c.loop-at-test.true) in
+    record {
+      inside = inside;
+      goes = λ cs l h. bare_next c.one_spelling.ensures cs c.args.body.now c.args.first c.loop-at.at (c.loop-at.at + 1) Nop further inside (c.if-is_nop.ensures refl) (λ u. u) (c.loop-at.invariant.goes cs l h);
     }
 
 pub returns-then-is_unbuilt : goal.returns-then-is_unbuilt

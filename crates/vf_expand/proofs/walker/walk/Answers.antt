@@ -1,8 +1,9 @@
-use Rattle.std.proofs.Common.{◌≡◌, ◌<◌, ◌+◌, ℕ, length, drop, arith, refl, ap, subst, None}
+use Rattle.std.proofs.Common.{◌≡◌, ◌<◌, ◌≤◌, ◌+◌, ℕ, length, drop, arith, refl, ap, subst, None}
 use Rattle.std.proofs.Math.ListN.{drop_of_length-le}
 use Rattle.std.proofs.lemmas.Bool.Decides.{nat_tests}
 use Rattle.std.proofs.lemmas.List.{nil_from_length}
 use Rattle.std.proofs.lemmas.Result.{err_from_is_err_and}
+use Rattle.dvi_ops.specs.Command.Command.{Nop}
 use Rattle.dvi_ops.specs.View.{view}
 use Rattle.positions.specs.Place.{Place}
 use Rattle.dvi_ops.specs.Placed.{Lexes}
@@ -10,6 +11,7 @@ use Rattle.vf_expand.specs.Grid.{State}
 use Rattle.vf_expand.specs.Turn.{last_first, turned, turn_marks}
 use Rattle.vf_expand.specs.Marks.{page_marks, marks_alone}
 use Rattle.vf_expand.proofs.Frame.{start, more, finish, lexed_next, bare_next, none_kept, as_many, no_fault, at_end, left_all, shallow_all}
+use Rattle.vf_expand.proofs.Nops.{nop_turn}
 use Rattle.vf_expand.proofs.Sizes.{special_in_range}
 use Rattle.vf_expand.proofs.Stopping.{can_on, covers_next, stop_on, cause_next, none_left, same_start, same_chain, can_later}
 use Rattle.vf_expand.proofs.walker.walk.Goals as goal
@@ -69,6 +71,27 @@ loop-at-preserved g c =
           c.args.canvas.now c.loop-at.canvas c.turn.new.canvas (last_first c.loop-at.saved.items) (last_first c.turn.new.saved.items)
           (record { place = c.loop-at.pos; font = None }) (record { place = c.turn.new.pos; font = None })
           f.0 f.1 f.2 (inv.goes cs l) c.in_ok-turn-in-Ok.ensures.ok (omega (arith, as_many c.turn.new.saved.items, c.in_ok-turn-in-Ok.ensures.most));
+    }
+
+pub loop-at-preserved-then-is_nop : goal.loop-at-preserved-then-is_nop
+loop-at-preserved-then-is_nop g c =
+    let inv = c.loop-at.invariant in
+    let here : State = record { place = c.loop-at.pos; font = None } in
+    let open_now = last_first c.loop-at.saved.items in
+    let further : c.loop-at.at < c.loop-at.at + 1 = omega arith in
+    let inside : c.loop-at.at + 1 ≤ length c.args.body.now = omega (arith, c.loop-at-test.true) in
+    let spelled = c.if-is_nop.ensures refl in
+    let b = inv.bare in
+    record {
+      inside = inside;
+      room = inv.room;
+      most = inv.most;
+      same = inv.same;
+      bare = (bare_next c.one_spelling.ensures c.args.body.now c.args.first c.loop-at.at (c.loop-at.at + 1) Nop b.0 further inside spelled b.1 b.2).1;
+      goes = λ cs l.
+          more g.C.Canvas.takes g.met.C.Canvas.chains c.one_spelling.ensures c.args.grid.now cs c.args.body.now c.args.first c.loop-at.at (c.loop-at.at + 1) Nop
+          c.args.canvas.now c.loop-at.canvas c.loop-at.canvas open_now open_now here here
+          further inside spelled (inv.goes cs l) (nop_turn g.C.Canvas.takes c.args.grid.now c.loop-at.canvas open_now here (g.met.C.Canvas.starts c.loop-at.canvas)) (omega (arith, as_many c.loop-at.saved.items, inv.most));
     }
 
 pub unreachable-requires : goal.unreachable-requires
