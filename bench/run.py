@@ -1,7 +1,8 @@
 """Runs the built texdvi, and dvips where it is installed, on the documents of files.py.
 
-Prints for each the least time of several runs (the first argument says how many), the memory where GNU time is installed, the bytes
-written, the number of write calls where strace is installed, and our time over the time of dvips.
+Prints for each the least times of several runs (the first argument says how many), the memory where GNU time is installed, the bytes
+written, the number of write calls where strace is installed, and our times over those of dvips. On a machine that does other work only
+the time of the processor tells something.
 """
 
 import os
@@ -19,10 +20,14 @@ RUNS = int(sys.argv[1]) if len(sys.argv) > 1 else 9
 
 
 def run(words, folder):
-    """One run: seconds and status."""
-    start = time.perf_counter()
-    done = subprocess.run(words, cwd=folder, stdout=subprocess.DEVNULL, stderr=subprocess.DEVNULL)
-    return time.perf_counter() - start, done.returncode
+    """One run: seconds of the clock, seconds of the processor, and status."""
+    with open(os.devnull, "wb") as null:
+        start = time.perf_counter()
+        child = subprocess.Popen(words, cwd=folder, stdout=null, stderr=null)
+        _, status, usage = os.wait4(child.pid, 0)
+        seconds = time.perf_counter() - start
+        child.returncode = os.waitstatus_to_exitcode(status)
+    return seconds, usage.ru_utime + usage.ru_stime, child.returncode
 
 
 def memory(words, folder):
@@ -55,8 +60,9 @@ def measure(words, folder, output):
     runs = [run(words, folder) for _ in range(RUNS)]
     size = os.path.getsize(path) if os.path.exists(path) else 0
     return dict(
-        seconds=min(seconds for seconds, _ in runs),
-        status=runs[0][1],
+        seconds=min(seconds for seconds, _, _ in runs),
+        processor=min(processor for _, processor, _ in runs),
+        status=runs[0][2],
         kilobytes=memory(words, folder),
         bytes=size,
         writes=write_calls(words, folder),
@@ -65,7 +71,7 @@ def measure(words, folder, output):
 
 def line(name, tool, found):
     known = {key: "?" if value is None else value for key, value in found.items()}
-    return "{:8} {:7} {seconds:8.4f} s {kilobytes:>8} KB {bytes:9} bytes {writes:>7} writes  status {status}".format(name, tool, **known)
+    return "{:8} {:7} {seconds:8.4f} s {processor:8.4f} s of the processor {kilobytes:>8} KB {bytes:9} bytes {writes:>7} writes  status {status}".format(name, tool, **known)
 
 
 def main():
@@ -81,7 +87,7 @@ def main():
             if shutil.which("dvips"):
                 theirs = measure(["dvips", "-q", "-D", "300", "-o", "theirs.ps", name], folder, "theirs.ps")
                 print(line(name, "dvips", theirs))
-                print(f"{name:8} ratio   {ours['seconds'] / theirs['seconds']:8.2f}")
+                print(f"{name:8} ratio   {ours['seconds'] / theirs['seconds']:8.2f}   {ours['processor'] / theirs['processor']:8.2f}")
     finally:
         shutil.rmtree(folder)
     return 0
