@@ -1,5 +1,5 @@
 -- The length of a command's text is known from its fixed operands, whatever follows.
-use Rattle.std.proofs.Common.{◌≡◌, ◌≤◌, ◌<◌, ◌+◌, ◌-◌, ℕ, suc, List, [], ◌∷◌, ◌++◌, length, slice_index, slice_range, take, drop, refl, sym, ap, subst, ◌∙◌, ◌⊎◌, inl, inr, arith, length-append}
+use Rattle.std.proofs.Common.{pos, ◌≡◌, ◌≤◌, ◌<◌, ◌+◌, ◌-◌, ℕ, suc, List, [], ◌∷◌, ◌++◌, length, slice_index, slice_range, take, drop, refl, sym, ap, subst, ◌∙◌, ◌⊎◌, inl, inr, arith, length-append}
 use Rattle.std.proofs.lemmas.Bool.{cases_lt}
 use Rattle.std.proofs.lemmas.Bool.Decides.{nat_tests}
 use Rattle.std.proofs.lemmas.List.{get_or_append_left, drop_more, take-append-drop, length-take-le, length-drop, take_at, take_rest}
@@ -7,6 +7,7 @@ use Rattle.byteorder.specs.Endian.{big_number}
 use Rattle.byteorder.specs.Numbers.{big_from-append}
 use Rattle.dv_base.specs.Numbers.{unsigned}
 use Rattle.dvi_ops.specs.Command.{Command}
+use Rattle.dvi_ops.specs.Command.Command.{Set, Fnt, Nop, Push, Pop, W0, X0, Y0, Z0}
 use Rattle.dvi_ops.specs.Spelling.{fixed_len, text_len, extent, meaning, low, motion, high, Spell, byte_at, behind}
 use Rattle.dvi_ops.specs.declared.cmd.OpFault.{OpFault}
 use Rattle.dvi_ops.specs.declared.cmd.OpFault.TheVariants as fault
@@ -99,6 +100,65 @@ spelled_single bytes at cmd h low none m =
     let s = spelled bytes at 0 rest cmd refl h (omega (arith, low)) (omega (arith, none, no_text op rest (inl (omega (arith, low))))) (omega arith) m in
     let next : at + 1 + 0 ≡ at + 1 = omega arith in
     subst (λ (n : ℕ). (n ≤ length bytes) × Spell cmd (slice_range bytes at n)) next s
+
+-- the commands of one byte
+abbrev pub Single : List ℕ → ℕ → Command → Type 0
+Single bytes at cmd = (at < at + 1) × (at + 1 ≤ length bytes) × Spell cmd (slice_range bytes at (at + 1))
+
+single : (bytes : List ℕ) (at op : ℕ) (cmd : Command) → at < length bytes → byte_at bytes at ≡ op → op < 235 → fixed_len op ≡ 0 → cmd ≡ meaning op [] → Single bytes at cmd
+single bytes at op cmd h e low none m =
+    let s = spelled_single bytes at cmd h (omega (arith, e, low)) (ap fixed_len e ∙ none) (m ∙ ap (λ (n : ℕ). meaning n []) (sym e)) in
+    (omega arith, s.0, s.1)
+
+set_len : (op : ℕ) → op < 128 → fixed_len op ≡ 0
+unfolding fixed_len
+set_len op h = grind (arith, nat_tests)
+
+set_is : (op : ℕ) → op < 128 → Set (pos op) ≡ meaning op []
+unfolding meaning low
+set_is op h = grind (arith, nat_tests)
+
+fnt_len : (op : ℕ) → 171 ≤ op → op < 235 → fixed_len op ≡ 0
+unfolding fixed_len
+fnt_len op h k = grind (arith, nat_tests)
+
+fnt_is : (op : ℕ) → 171 ≤ op → op < 235 → Fnt (pos (op - 171)) ≡ meaning op []
+unfolding meaning high
+fnt_is op h k = grind (arith, nat_tests)
+
+pub set_single : (bytes : List ℕ) (at : ℕ) → at < length bytes → byte_at bytes at < 128 → Single bytes at (Set (pos (byte_at bytes at)))
+set_single bytes at h k = single bytes at (byte_at bytes at) (Set (pos (byte_at bytes at))) h refl (omega (arith, k)) (set_len (byte_at bytes at) k) (set_is (byte_at bytes at) k)
+
+pub fnt_single : (bytes : List ℕ) (at : ℕ) → at < length bytes → 171 ≤ byte_at bytes at → byte_at bytes at < 235 → Single bytes at (Fnt (pos (byte_at bytes at - 171)))
+fnt_single bytes at h a b = single bytes at (byte_at bytes at) (Fnt (pos (byte_at bytes at - 171))) h refl b (fnt_len (byte_at bytes at) a b) (fnt_is (byte_at bytes at) a b)
+
+pub nop_single : (bytes : List ℕ) (at : ℕ) → at < length bytes → byte_at bytes at ≡ 138 → Single bytes at Nop
+unfolding meaning low fixed_len
+nop_single bytes at h e = single bytes at 138 Nop h e (omega arith) refl refl
+
+pub push_single : (bytes : List ℕ) (at : ℕ) → at < length bytes → byte_at bytes at ≡ 141 → Single bytes at Push
+unfolding meaning low fixed_len
+push_single bytes at h e = single bytes at 141 Push h e (omega arith) refl refl
+
+pub pop_single : (bytes : List ℕ) (at : ℕ) → at < length bytes → byte_at bytes at ≡ 142 → Single bytes at Pop
+unfolding meaning low fixed_len
+pop_single bytes at h e = single bytes at 142 Pop h e (omega arith) refl refl
+
+pub w0_single : (bytes : List ℕ) (at : ℕ) → at < length bytes → byte_at bytes at ≡ 147 → Single bytes at W0
+unfolding meaning motion fixed_len
+w0_single bytes at h e = single bytes at 147 W0 h e (omega arith) refl refl
+
+pub x0_single : (bytes : List ℕ) (at : ℕ) → at < length bytes → byte_at bytes at ≡ 152 → Single bytes at X0
+unfolding meaning motion fixed_len
+x0_single bytes at h e = single bytes at 152 X0 h e (omega arith) refl refl
+
+pub y0_single : (bytes : List ℕ) (at : ℕ) → at < length bytes → byte_at bytes at ≡ 161 → Single bytes at Y0
+unfolding meaning motion fixed_len
+y0_single bytes at h e = single bytes at 161 Y0 h e (omega arith) refl refl
+
+pub z0_single : (bytes : List ℕ) (at : ℕ) → at < length bytes → byte_at bytes at ≡ 166 → Single bytes at Z0
+unfolding meaning motion fixed_len
+z0_single bytes at h e = single bytes at 166 Z0 h e (omega arith) refl refl
 
 -- two fronts of one list that have one length are one
 fronts : (a b x y : List ℕ) → length a ≡ length b → a ++ x ≡ b ++ y → a ≡ b

@@ -2,7 +2,7 @@
 //!
 //! A DVI file is a string of commands: one byte, the operation, and then its operands, big endian. Packets of virtual fonts hold
 //! the same commands. This crate reads one command at a place and tells where the next begins; it lends texts from the bytes and
-//! needs no memory.
+//! needs no memory for that.
 //!
 //! ```
 //! // set4 with the code -1 has five bytes, and nop stands behind it
@@ -25,7 +25,7 @@ mod read;
 pub use cmd::{Cmd, Def, Head, OpFault, Tail};
 pub use font_numbers::FontNumbers;
 pub use laws::{one_reading, one_spelling};
-pub use plain::pass;
+pub use plain::{is_nop, pass};
 pub use read::next_cmd;
 
 #[cfg(test)]

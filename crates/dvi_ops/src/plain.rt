@@ -1,10 +1,14 @@
 //! Passes over commands whose values aren't asked for.
-ghost use Rattle.std.specs.Prelude.{◌≡◌, ◌≤◌, ◌<◌, ◌⊎◌, length, slice_range, IfSome, IsTrue};
+ghost use Rattle.std.specs.Prelude.{◌≡◌, ◌≤◌, ◌<◌, ◌+◌, ◌⊎◌, length, slice_range, IfSome, IsTrue};
 ghost use Rattle.dvi_ops.specs.Command.{Command};
+ghost use Rattle.dvi_ops.specs.Command.Command.{Nop};
 ghost use Rattle.dvi_ops.specs.Spelling.{Spell};
 ghost use Rattle.dvi_ops.specs.Plain.{IsPlain};
 
 use crate::length::{fixed_len, is_single};
+
+/// The operation byte of nop.
+const NOP: u8 = 138;
 
 /// Whether the byte begins a command that stands inside pages and has no text.
 #[inline(always)]
@@ -34,4 +38,13 @@ pub fn pass(bytes: &[u8], at: usize) -> Option<usize>
         return None;
     }
     Some(at + 1 + fixed)
+}
+
+/// Whether nop stands at a place.
+#[inline(always)]
+pub fn is_nop(bytes: &[u8], at: usize) -> bool
+    requires { at < length bytes.now }
+    ensures { IsTrue result → Spell Nop (slice_range bytes.now at (at + 1)) }
+{
+    bytes[at] == NOP
 }

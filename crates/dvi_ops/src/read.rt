@@ -1,10 +1,10 @@
 //! Reads one command: its length from the operation byte and the operands that count a text, then its operands.
-ghost use Rattle.std.specs.Prelude.{◌≡◌, ◌≤◌, ◌<◌, ◌+◌, ◌⊎◌, [], length, slice_range, IfOk, IfErr, OnErr};
+ghost use Rattle.std.specs.Prelude.{◌≡◌, ◌≤◌, ◌<◌, ◌+◌, ◌⊎◌, length, slice_range, IfOk, IfErr, OnErr};
 ghost use Rattle.dvi_ops.specs.Spelling.{byte_at, fixed_len, low, motion, high, definition, counts, meaning, Spell, preamble, postamble};
 ghost use Rattle.dvi_ops.specs.View.{view, def_view, head_view, tail_view, FaultAt, NoSpelling};
 
 use crate::cmd::{Cmd, Def, Head, OpFault, Tail};
-use crate::length::{fixed_len, is_single, text_len};
+use crate::length::{fixed_len, text_len};
 use crate::number::code;
 use dv_base::{signed, unsigned};
 
@@ -12,8 +12,10 @@ use dv_base::{signed, unsigned};
 ///
 /// Texts are lent from `bytes`. Where it answers a fault, no spelling of a command begins at the place: `Undefined` where the byte
 /// there is 250 or more, `Short` where the bytes end before the command does. The place in a fault is `at`.
-// Most commands of a page are one byte: these are answered where the caller stands, with nothing but a small value written.
+// Most commands of a page are one byte: these are answered where the caller stands, each by a return of its own, so that nothing
+// but a small value is written.
 #[inline(always)]
+#[tactic(auto, unfolding(crate::specs::Spelling::fixed_len))]
 pub fn next_cmd(bytes: &[u8], at: usize) -> Result<(Cmd<'_>, usize), OpFault>
     requires { at < length bytes.now }
     ensures found { IfOk result (λ r. (at < r.1) × (r.1 ≤ length bytes.now) × Spell (view r.0) (slice_range bytes.now at r.1)) }
@@ -21,10 +23,18 @@ pub fn next_cmd(bytes: &[u8], at: usize) -> Result<(Cmd<'_>, usize), OpFault>
     ensures none { OnErr result (NoSpelling bytes.now at) }
 {
     let op = bytes[at];
-    if is_single(op) {
-        return Ok((read_single(op), at + 1));
+    match op {
+        0..=127 => Ok((Cmd::Set(op as i64), at + 1)),
+        138 => Ok((Cmd::Nop, at + 1)),
+        141 => Ok((Cmd::Push, at + 1)),
+        142 => Ok((Cmd::Pop, at + 1)),
+        147 => Ok((Cmd::W0, at + 1)),
+        152 => Ok((Cmd::X0, at + 1)),
+        161 => Ok((Cmd::Y0, at + 1)),
+        166 => Ok((Cmd::Z0, at + 1)),
+        171..=234 => Ok((Cmd::Fnt((op - 171) as i64), at + 1)),
+        _ => next_long(bytes, at),
     }
-    next_long(bytes, at)
 }
 
 /// Reads the command at a place where none without operands stands, but for eop.
@@ -57,27 +67,6 @@ fn next_long(bytes: &[u8], at: usize) -> Result<(Cmd<'_>, usize), OpFault>
         return Err(OpFault::Short(at));
     }
     Ok((read_high(op, &rest[..len]), at + 1 + len))
-}
-
-/// The command of an operation byte that has no operands.
-#[inline(always)]
-#[tactic(auto, unfolding(crate::specs::Spelling::meaning, crate::specs::Spelling::low, crate::specs::Spelling::motion, crate::specs::Spelling::high, crate::specs::Spelling::fixed_len))]
-fn read_single<'a>(op: u8) -> Cmd<'a>
-    requires inside { (op < 139) ⊎ ((140 < op) × (op < 235)) }
-    requires none { fixed_len op ≡ 0 }
-    ensures { view result ≡ meaning op [] }
-{
-    match op {
-        0..=127 => Cmd::Set(op as i64),
-        138 => Cmd::Nop,
-        141 => Cmd::Push,
-        142 => Cmd::Pop,
-        147 => Cmd::W0,
-        152 => Cmd::X0,
-        161 => Cmd::Y0,
-        166 => Cmd::Z0,
-        _ => Cmd::Fnt((op - 171) as i64),
-    }
 }
 
 /// One of the moves with a distance, 143 to 170.

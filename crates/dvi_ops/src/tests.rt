@@ -152,7 +152,9 @@ fn passes_over_plain_commands(rt: HostRuntime) -> Result<(), Fail> {
     for bytes in others {
         assert!(rt; !bytes.is_empty());
         assert_eq!(rt; pass(bytes, 0), None);
+        assert!(rt; !is_nop(bytes, 0));
     }
+    assert!(rt; is_nop(&[141, 138], 1));
     Ok(())
 }
 
