@@ -17,7 +17,6 @@
 mod fault;
 mod grid;
 mod laws;
-mod nop;
 mod paint;
 mod plain;
 mod shift;

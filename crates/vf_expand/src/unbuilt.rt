@@ -6,8 +6,7 @@ ghost use Rattle.dvi_doc.specs.Grammar.{AllInner};
 ghost use Rattle.vf_expand.specs.Commands.{AllBare};
 ghost use Rattle.vf_expand.specs.Unbuilt.{IsUnbuilt, IsFirstUnbuilt};
 
-use crate::nop::is_nop;
-use dvi_ops::{Cmd, next_cmd, one_spelling};
+use dvi_ops::{Cmd, is_nop, next_cmd, one_spelling};
 
 /// Whether the command sets a character or selects a font.
 fn is_unbuilt(cmd: &Cmd<'_>) -> bool

@@ -11,10 +11,9 @@ ghost use Rattle.vf_expand.specs.Shallow.{IsShallow};
 
 use crate::fault::WalkFault;
 use crate::grid::Grid;
-use crate::nop::is_nop;
 use crate::turn::{MOST_OPEN, turn};
 use dv_base::{Conv, Spot};
-use dvi_ops::{next_cmd, one_spelling};
+use dvi_ops::{is_nop, next_cmd, one_spelling};
 use positions::{Canvas, Pos};
 use std::alloc::{AllocError, Global};
 use std::marker::Model;
