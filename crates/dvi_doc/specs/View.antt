@@ -6,6 +6,7 @@ use Rattle.dvi_doc.specs.Document.{PageOf, Document}
 use Rattle.dvi_doc.specs.Grammar.{IsDoc}
 use Rattle.dvi_doc.specs.declared.page.Page.{Page}
 use Rattle.dvi_doc.specs.declared.font.FontDef.{FontDef}
+use Rattle.dvi_doc.specs.declared.font.FontKey.{FontKey}
 
 -- a page by its places, without its commands
 pub record Outline : Type 0 where
@@ -25,12 +26,16 @@ abbrev pub font_view : FontDef → Definition
 font_view f =
     record {
       k = f.k;
-      checksum = f.key.checksum;
-      size = pos f.key.size;
-      design = pos f.key.design;
+      checksum = f.checksum;
+      size = pos f.size;
+      design = pos f.design;
       area = f.area;
-      name = text_of f.key.name;
+      name = f.name.now;
     }
+
+-- the key has the definition's name and its three numbers
+abbrev pub IsKeyOf : Definition → FontKey → Type 0
+IsKeyOf d key = (text_of key.name ≡ d.name) × (key.checksum ≡ d.checksum) × (pos key.size ≡ d.size) × (pos key.design ≡ d.design)
 
 -- a document that was read: its bytes, and what was found in them
 pub record ReadDoc : Type 0 where

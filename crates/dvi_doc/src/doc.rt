@@ -1,10 +1,10 @@
 //! A document that was read.
-ghost use Rattle.std.specs.Prelude.{◌≡◌, ◌≤◌, ◌<◌, ◌^◌, ℕ, List, length, map, slice_range, slice_get, IfOk, IfErr, Some, MatchOption};
-ghost use Rattle.std.specs.List.{Contains};
+ghost use Rattle.std.specs.Prelude.{◌≡◌, ◌≤◌, ◌<◌, ◌^◌, ℕ, List, length, map, slice_range, slice_get, IfOk, IfErr, Some, IfSome, MatchOption};
+ghost use Rattle.std.specs.List.{All, Contains};
 ghost use Rattle.dvi_ops.specs.View.{head_view, tail_view};
 ghost use Rattle.dvi_doc.specs.Document.{Document, PageOf};
 ghost use Rattle.dvi_ops.specs.Placed.{Lexes};
-ghost use Rattle.dvi_doc.specs.Grammar.{IsDoc, NoDoc, AllInner, Defines};
+ghost use Rattle.dvi_doc.specs.Grammar.{IsDoc, NoDoc, AllInner, Defines, IsNamed};
 ghost use Rattle.dvi_doc.specs.View.{IsRead, Outline, outline, page_view, font_view};
 ghost use Rattle.dvi_doc.specs.Faults.{FaultIn, NoneBut};
 
@@ -25,7 +25,7 @@ pub struct Doc<'a> {
     head: Head<'a>,
     pages: Vec<Page>,
     tail: Tail,
-    fonts: Fonts,
+    fonts: Fonts<'a>,
 }
 
 impl<'a> Model for Doc<'a> {
@@ -100,15 +100,17 @@ impl<'a> Doc<'a> {
     }
 
     /// The font that the postamble defines by this number; `None` exactly where it defines none.
-    pub fn font(&self, k: i64) -> Option<&FontDef>
-        ensures { MatchOption result (Defines self.now.fonts k → ⊥) (λ font. Contains self.now.fonts (font_view font.now) × (font.now.k ≡ k)) }
+    pub fn font(&self, k: i64) -> Option<&FontDef<'a>>
+        ensures found { MatchOption result (Defines self.now.fonts k → ⊥) (λ font. Contains self.now.fonts (font_view font.now) × (font.now.k ≡ k)) }
+        ensures named { IfSome result (λ font. IsNamed (font_view font.now)) }
     {
         self.fonts.get(k)
     }
 
     /// The fonts in the order in which the postamble defines them.
-    pub fn fonts(&self) -> &[FontDef]
-        ensures { map font_view result.now ≡ self.now.fonts }
+    pub fn fonts(&self) -> &[FontDef<'a>]
+        ensures fonts { map font_view result.now ≡ self.now.fonts }
+        ensures named { All IsNamed self.now.fonts }
     {
         self.fonts.all()
     }

@@ -15,12 +15,12 @@ use std::marker::Model;
 
 /// Fonts in the order of their definitions, each number once. The place of a number among the numbers is that of its font.
 #[derive(Drop)]
-pub struct Fonts {
-    fonts: Vec<FontDef>,
+pub struct Fonts<'a> {
+    fonts: Vec<FontDef<'a>>,
     numbers: FontNumbers,
 }
 
-impl Model for Fonts {
+impl<'a> Model for Fonts<'a> {
     ghost use Rattle.dvi_doc.specs.View.{font_view};
     ghost use Rattle.dvi_doc.specs.Grammar.{number_of};
     ghost use Rattle.dvi_ops.specs.Command.{Definition};
@@ -33,9 +33,9 @@ impl Model for Fonts {
     ghost invariant = { λ f. f.numbers ≡ map number_of (map font_view f.fonts.items) };
 }
 
-impl Fonts {
+impl<'a> Fonts<'a> {
     /// The fonts of these definitions.
-    pub fn new(alloc: Global, defs: &[Def<'_>]) -> Result<Fonts, DocFault>
+    pub fn new(alloc: Global, defs: &[Def<'a>]) -> Result<Fonts<'a>, DocFault>
         ensures found { IfOk result (λ fonts. (fonts ≡ map def_view defs.now) × AreFonts fonts) }
         ensures fault { IfErr result (FontFault (map def_view defs.now)) }
     {
@@ -50,10 +50,10 @@ impl Fonts {
     }
 
     /// These and one more, behind them.
-    fn with(self, def: Def<'_>) -> Result<Fonts, DocFault>
+    fn with(self, def: Def<'a>) -> Result<Fonts<'a>, DocFault>
         requires { AreFonts self }
-        ensures added { IfOk result (λ fonts. (fonts ≡ self ++ def_view def.entry ∷ []) × AreFonts fonts) }
-        ensures fault { IfErr result (AddFault self (def_view def.entry)) }
+        ensures added { IfOk result (λ fonts. (fonts ≡ self.entry ++ def_view def.entry ∷ []) × AreFonts fonts) }
+        ensures fault { IfErr result (AddFault self.entry (def_view def.entry)) }
     {
         let font = font_of(def)?;
         let Fonts {
@@ -69,14 +69,14 @@ impl Fonts {
     }
 
     /// All of them.
-    pub fn all(&self) -> &[FontDef]
+    pub fn all(&self) -> &[FontDef<'a>]
         ensures { map font_view result.now ≡ self.now }
     {
         &self.fonts
     }
 
     /// The font of a number; `None` exactly where there is none.
-    pub fn get(&self, k: i64) -> Option<&FontDef>
+    pub fn get(&self, k: i64) -> Option<&FontDef<'a>>
         ensures { MatchOption result (Defines self.now k → ⊥) (λ font. Contains self.now (font_view font.now) × (font.now.k ≡ k)) }
     {
         let place = self.numbers.place(k)?;

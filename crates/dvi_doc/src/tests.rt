@@ -179,10 +179,13 @@ fn parts_of_a_document(rt: HostRuntime) -> Result<(), Fail> {
     assert_eq!(rt; pages[0].counts, [1, 0, 0, 0, 0, 0, 0, 0, 0, 0]);
     assert_eq!(rt; doc.body(0), &ONE[60..83]);
     assert!(rt; doc.font(1).is_none());
-    let font = doc.font(0).ok_or("font 0")?;
-    assert_eq!(rt; font.key.name.as_str(), "cmr10");
+    let Some(font) = doc.font(0) else {
+        return Err("font 0".into());
+    };
+    let key = font.key();
+    assert_eq!(rt; key.name.as_str(), "cmr10");
     assert_eq!(rt;
-        (font.k, font.key.checksum, font.key.size, font.key.design),
+        (font.k, key.checksum, key.size, key.design),
         (0, 0, 655_360, 655_360)
     );
     assert_eq!(rt; doc.fonts().len(), 1);
