@@ -125,7 +125,7 @@ fn tray(alloc: Global, chunk: usize, fails: u32) -> Result<MemTray, Fail>
     requires { 1 ≤ chunk }
     ensures { IfOk result (λ tray. 0 < (seen_of tray).begun) }
 {
-    let mut tray = MemTray::new(alloc, 2000, 0)?;
+    let mut tray = MemTray::new(alloc, 4000, 0)?;
     tray.chunk(chunk);
     tray.fail_at(fails)?;
     match tray.begin(alloc, "rule.ps") {
@@ -151,7 +151,7 @@ fn texts(rt: HostRuntime) -> Result<(), Fail> {
     headers.push(Vec::from_slice(alloc, b"}a%")?)?;
     let first = setup(1, (300, 300), (300, 300), 1)?;
     let second = setup(2, (600, 300), (-5, 7), 2)?;
-    for chunk in [1, 2, 3, 7, 2000] {
+    for chunk in [1, 2, 3, 7, 4000] {
         let mut taken = tray(alloc, chunk, 0)?;
         assert!(rt; write_one(&mut taken, &first).is_ok());
         assert_eq!(rt; taken.written(), one.as_slice(), "by {chunk}");
@@ -167,7 +167,7 @@ fn fronts(rt: HostRuntime) -> Result<(), Fail> {
     let alloc = rt.alloc();
     let one = text(alloc, ONE)?;
     let first = setup(1, (300, 300), (300, 300), 1)?;
-    for chunk in [7, 2000] {
+    for chunk in [7, 4000] {
         for fails in 1..200 {
             let mut taken = tray(alloc, chunk, fails)?;
             let answer = write_one(&mut taken, &first);
