@@ -1,0 +1,10 @@
+pub mod Keys
+pub mod Stores
+pub mod Ids
+pub mod Learning
+pub mod Loading
+pub mod Shelves
+pub mod Sizes
+pub mod Packets
+pub mod Looks
+pub mod Points

@@ -1,0 +1,83 @@
+-- Why the fonts of a page are refused, by the set that the call leaves.
+use Rattle.std.specs.Prelude.{◌≡◌, ◌≢◌, ◌≤◌, ◌<◌, ◌⊎◌, ℕ, ℤ, pos, List, [], ◌∷◌, ◌++◌, length, Option, Some, None}
+use Rattle.dv_base.specs.FileName.{text_of}
+use Rattle.dv_base.specs.declared.font_id.Spot.{Spot}
+use Rattle.dv_base.specs.declared.font_id.Spot.TheVariants as spot
+use Rattle.dv_base.specs.Scale.{scaled}
+use Rattle.dvi_ops.specs.Command.{Command}
+use Rattle.dvi_ops.specs.Command.Command.{Set, Put, Fnt}
+use Rattle.dvi_ops.specs.Placed.{Placed}
+use Rattle.tfm_widths.specs.Widths.{width_in}
+use Rattle.vf_packets.specs.Font.{VirtualFont, LocalFont, packet_of}
+use Rattle.font_set.specs.Key.{Key}
+use Rattle.font_set.specs.LocalKey.{local_design, local_key}
+use Rattle.font_set.specs.Fonts.{State, FontSet, place_of, state_at, size_at, width_at, packet_at, IsVirtual}
+use Rattle.font_set.specs.Programs.{Named, Scope, Program, HasNumber, program_at, key_of_first, id_of}
+use Rattle.font_set.specs.Acts.{IsReached}
+use Rattle.font_set.specs.Frames.{Char, selected, acts_of, body}
+use Rattle.font_set.specs.declared.fault.FontFault.{FontFault}
+use Rattle.font_set.specs.declared.fault.FontFault.TheVariants as font
+use Rattle.font_set.specs.declared.fault.LoadFault.{LoadFault}
+use Rattle.font_set.specs.declared.fault.LoadFault.TheVariants as load
+
+-- the font that is selected behind these commands
+abbrev pub selected_after : Scope → Option Key → List Placed → Option Key
+selected_after scope sel [] = sel
+selected_after scope sel (c ∷ cs) = selected_after scope (selected scope sel c.command) cs
+
+-- A command of a frame, and the font that is selected before it.
+pub record CommandOf (program : Program) (at : ℕ) : Type 0 where
+  pub before : List Placed
+  pub command : Command
+  pub behind : List Placed
+  pub whole : before ++ record { place = at; command = command } ∷ behind ≡ program.commands
+  pub sel : Option Key
+  pub selects : sel ≡ selected_after program.scope (key_of_first program.first) before
+
+-- A packet that is run in the frames of a page.
+pub record PacketOf (set : FontSet) (page : Program) (id code : ℕ) (program : Program) : Type 0 where
+  pub char : Char
+  pub reached : IsReached (body set) (acts_of page) char
+  pub font : place_of set.fonts char.key ≡ Some id
+  pub same : char.code ≡ code
+  pub packet : program_at set id code ≡ Some program
+
+-- the frame at a spot, and the place in it
+abbrev pub InFrame : FontSet → Program → Spot → (Program → ℕ → Type 0) → Type 0
+InFrame set page (spot.Page at) P = P page at
+InFrame set page (spot.Packet id code at) P = (program : Program) × PacketOf set page id code program × P program at
+
+-- one of the frames of a page
+abbrev pub InSome : FontSet → Program → (Program → Type 0) → Type 0
+InSome set page P = P page ⊎ ((id : ℕ) × (code : ℕ) × (program : Program) × PacketOf set page id code program × P program)
+
+abbrev pub IsCharCommand : Command → ℤ → Type 0
+IsCharCommand (Set z) y = z ≡ y
+IsCharCommand (Put z) y = z ≡ y
+IsCharCommand _ y = ⊥
+
+-- the command at the place selects a number that its frame doesn't define
+abbrev pub SelectsNone : Program → ℕ → Type 0
+SelectsNone program at = (c : CommandOf program at) × (k : ℤ) × (c.command ≡ Fnt k) × (HasNumber program.scope.fonts k → ⊥)
+
+-- it sets a character, and no font is selected
+abbrev pub SetsNowhere : Program → ℕ → Type 0
+SetsNowhere program at = (c : CommandOf program at) × (z : ℤ) × IsCharCommand c.command z × (c.sel ≡ None)
+
+-- a character of this font and code is set
+abbrev pub SetsIn : FontSet → ℕ → ℤ → Program → Type 0
+SetsIn set id z program = (at : ℕ) × (c : CommandOf program at) × IsCharCommand c.command z × (id_of set c.sel ≡ Some id)
+
+-- the code isn't from 0 to 255, or the font has no width for it
+abbrev pub HasNoWidth : FontSet → ℕ → ℤ → Type 0
+HasNoWidth set id z = ((c : ℕ) → z ≡ pos c → 255 < c) ⊎ ((c : ℕ) × (z ≡ pos c) × (width_at set id c ≡ None))
+
+-- LoadFault's own sentences, for the frames of a page. (What stands in files is FontFault's.)
+abbrev pub LoadFaultIs : FontSet → Program → LoadFault → Type 0
+LoadFaultIs set page (load.UndefinedFont s) = InFrame set page s SelectsNone
+LoadFaultIs set page (load.NoFont s) = InFrame set page s SetsNowhere
+LoadFaultIs set page (load.NoChar id z) = InSome set page (SetsIn set id z) × HasNoWidth set id z
+LoadFaultIs set page (load.NoPacket id code) = InSome set page (SetsIn set id (pos code)) × IsVirtual (state_at set id) × (packet_at set id code ≡ None)
+LoadFaultIs set page (load.NoGlyph id code) = InSome set page (SetsIn set id (pos code))
+LoadFaultIs set page (load.GlyphTooBig id code bytes) = InSome set page (SetsIn set id (pos code))
+LoadFaultIs set page (load.Font f) = Unit {0}

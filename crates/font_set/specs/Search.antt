@@ -1,0 +1,136 @@
+-- The search for the fonts of a page: frames as they stand in bytes.
+use Rattle.std.specs.Prelude.{◌≡◌, ◌≢◌, ◌<◌, ◌≤◌, ◌⊎◌, ℕ, zero, suc, ◌+◌, ℤ, pos, Bool, true, false, List, [], ◌∷◌, ◌++◌, map, length, drop, reverse, Option, Some, None, slice_get, nat_eq, fold, if◌then◌else◌}
+use Rattle.dv_base.specs.declared.font_id.Spot.{Spot}
+use Rattle.dv_base.specs.declared.font_id.Spot.TheVariants as spot
+use Rattle.dvi_ops.specs.Command.{Command, Definition}
+use Rattle.dvi_ops.specs.Command.Command.{Set, Put, Fnt}
+use Rattle.dvi_ops.specs.Placed.{Placed, Lexes}
+use Rattle.dvi_doc.specs.declared.font.FontKey.{FontKey}
+use Rattle.font_set.specs.Key.{Key, same_key, blank_key}
+use Rattle.font_set.specs.Fonts.{State, Entry, FontSet, place_of, state_at, size_at, packet_at, width_at, IsLoaded, IsVirtual}
+use Rattle.dvi_ops.specs.Reading.{commands_in}
+use Rattle.font_set.specs.Programs.{Named, Scope, Program, HasNumber, key_in, page_program, program_at}
+use Rattle.font_set.specs.Growth.{Extends, Learnt, Loaded}
+use Rattle.font_set.specs.Acts.{Act}
+use Rattle.font_set.specs.Frames.{Char, FontAct, acts_of, body}
+use Rattle.font_set.specs.Covers.{IsShown}
+use Rattle.font_set.specs.Views.{key_of}
+use Rattle.font_set.specs.LoadFaults.{IsCharCommand, HasNoWidth}
+use Rattle.font_set.specs.declared.fault.LoadFault.{LoadFault}
+use Rattle.font_set.specs.declared.fault.LoadFault.TheVariants as load
+use Rattle.font_set.specs.declared.load.Home.{Home}
+use Rattle.font_set.specs.declared.load.Home.TheVariants as home
+use Rattle.font_set.specs.declared.load.Place.{Place}
+use Rattle.font_set.specs.declared.load.Does.{Does}
+use Rattle.font_set.specs.declared.load.Does.TheVariants as does
+use Rattle.font_set.specs.declared.load.Turn.{Turn}
+
+-- ---- frames as they stand in bytes
+
+abbrev pub or_none : Option (List Placed) → List Placed
+or_none None = []
+or_none (Some cs) = cs
+
+-- a page whose commands these bytes spell
+unfoldable pub page_in : List Definition → ℕ → List ℕ → Program
+page_in ds first bytes = page_program ds (or_none (commands_in first bytes))
+
+abbrev pub empty_program : Program
+empty_program = record { scope = record { size = None; fonts = [] }; first = None; commands = [] }
+
+abbrev pub or_empty : Option Program → Program
+or_empty None = empty_program
+or_empty (Some p) = p
+
+-- the packet of a character, which is empty where the font is real
+abbrev pub program_or : FontSet → ℕ → ℕ → Program
+program_or set id code = or_empty (program_at set id code)
+
+abbrev pub bytes_or : Option (List ℕ) → List ℕ
+bytes_or None = []
+bytes_or (Some bytes) = bytes
+
+module _ (set : FontSet) where
+  abbrev pub program_of : Program → Home → Program
+  program_of page home.Page = page
+  program_of page (home.Packet id code) = program_or set id code
+
+  abbrev pub bytes_of : List ℕ → Home → List ℕ
+  bytes_of bytes home.Page = bytes
+  bytes_of bytes (home.Packet id code) = bytes_or (packet_at set id code)
+
+  -- the font of a packet is loaded
+  abbrev pub IsHome : Home → Type 0
+  IsHome home.Page = Unit {0}
+  IsHome (home.Packet id code) = (id < length set.fonts) × IsLoaded (state_at set id)
+
+  -- the selected font by key and by id
+  abbrev pub IsSel : Option Key → Option ℕ → Type 0
+  IsSel None None = Unit {0}
+  IsSel None (Some id) = ⊥
+  IsSel (Some k) None = ⊥
+  IsSel (Some k) (Some id) = place_of set.fonts k ≡ Some id
+
+abbrev pub first_of : ℕ → Home → ℕ
+first_of first home.Page = first
+first_of first (home.Packet id code) = 0
+
+abbrev pub spot_at : Home → ℕ → Spot
+spot_at home.Page at = spot.Page at
+spot_at (home.Packet id code) at = spot.Packet id code at
+
+-- ---- one turn
+
+-- what a command does with fonts
+abbrev pub Tells : Scope → Command → Does → Type 0
+Tells scope (Fnt k) does.Nothing = ⊥
+Tells scope (Set z) does.Nothing = ⊥
+Tells scope (Put z) does.Nothing = ⊥
+Tells scope _ does.Nothing = Unit {0}
+Tells scope c (does.Selects key) = (k : ℤ) × (c ≡ Fnt k) × (key_in scope.fonts k ≡ Some (key_of key))
+Tells scope c (does.Sets z) = IsCharCommand c z
+
+-- The next of the commands, and what is behind it.
+pub record Next (from at next : ℕ) (bytes : List ℕ) (rest : List Placed) : Type 0 where
+  pub command : Command
+  pub behind : List Placed
+  pub split : rest ≡ record { place = from + at; command = command } ∷ behind
+  pub lexed : Lexes (from + next) (drop next bytes) behind
+
+abbrev pub IsTurn : Scope → ℕ → ℕ → List ℕ → Turn → Type 0
+IsTurn scope from at bytes t = (rest : List Placed) → Lexes (from + at) (drop at bytes) rest → (n : Next from at t.next bytes rest) × Tells scope n.command t.does
+
+abbrev pub IsTurnFault : Home → Scope → ℕ → ℕ → List ℕ → LoadFault → Type 0
+IsTurnFault h scope from at bytes (load.UndefinedFont s) = (s ≡ spot_at h (from + at)) × ((rest : List Placed) → Lexes (from + at) (drop at bytes) rest → (c : Command) × (behind : List Placed) × (rest ≡ record { place = from + at; command = c } ∷ behind) × (k : ℤ) × (c ≡ Fnt k) × (HasNumber scope.fonts k → ⊥))
+IsTurnFault h scope from at bytes (load.Font f) = Unit {0}
+IsTurnFault h scope from at bytes _ = ⊥
+
+-- why a character of a loaded font can't be shown
+abbrev pub IsCharFault : FontSet → ℕ → ℤ → LoadFault → Type 0
+IsCharFault set id z (load.NoChar i y) = (i ≡ id) × (y ≡ z) × HasNoWidth set id z
+IsCharFault set id z (load.NoPacket i code) = (i ≡ id) × (z ≡ pos code) × IsVirtual (state_at set id) × (packet_at set id code ≡ None)
+IsCharFault set id z _ = ⊥
+
+-- the first local font of a packet, by its key
+abbrev pub IsFirst : Option Named → Option FontKey → Type 0
+IsFirst None None = Unit {0}
+IsFirst None (Some key) = ⊥
+IsFirst (Some f) None = ⊥
+IsFirst (Some f) (Some key) = f.key ≡ Some (key_of key)
+
+-- the first font of a packet was made known
+abbrev pub LearntFirst : FontSet → FontSet → Option FontKey → Option ℕ → Type 0
+LearntFirst old new None o = (new ≡ old) × (o ≡ None)
+LearntFirst old new (Some key) o = Learnt old new (key_of key) × (id : ℕ) × (o ≡ Some id) × (place_of new.fonts (key_of key) ≡ Some id)
+
+-- ---- the frames of a page as the packets of one search
+
+-- The page is a packet that no character runs: no code is 256.
+abbrev pub root : Char
+root = record { key = blank_key; code = 256 }
+
+unfoldable pub rooted : Program → FontSet → Char → List FontAct
+rooted page set ch = if nat_eq ch.code 256 then acts_of page else body set ch
+
+abbrev pub moves : Place → ℕ → Option ℕ → Place
+moves p next font = record { home = p.home; at = next; end = p.end; font = font }

@@ -1,0 +1,30 @@
+//! The fonts of a run.
+//!
+//! [`Fonts`] knows fonts by their keys and numbers them from 0. It loads a font from the files of a shelf, and lends what they tell:
+//! widths, bitmaps, and the packets of virtual fonts with the fonts that are local to them. [`Fonts::load_page`] loads all that
+//! a page needs, through virtual fonts in virtual fonts, so that a walk over the page meets no fault of a font any more.
+//!
+//! ```text
+//! let mut fonts = Fonts::new(alloc, units, conv, Want::Rasters);
+//! let id = fonts.know(&key)?;
+//! fonts.load(shelf, id)?;
+//! let width = fonts.width(id, b'A');
+//! ```
+#![tactic(auto)]
+
+mod fault;
+mod files;
+mod font;
+mod fonts;
+mod laws;
+mod load;
+mod local;
+mod look;
+#[cfg(test)]
+mod tests;
+mod want;
+
+pub use fault::{FontFault, FontKeyParts, LoadFault};
+pub use fonts::Fonts;
+pub use laws::one_key;
+pub use want::{Kind, Want};
