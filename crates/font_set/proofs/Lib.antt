@@ -8,3 +8,14 @@ pub mod Sizes
 pub mod Packets
 pub mod Looks
 pub mod Points
+pub mod Order
+pub mod Growing
+pub mod Finding
+pub mod Ending
+pub mod Faulting
+pub mod Steps
+pub mod States
+pub mod Turning
+pub mod Defining
+pub mod Showing
+pub mod Paging

@@ -55,7 +55,7 @@ stored_set es id s l k h r a =
 -- ---- what a call of load says
 
 pub loads_new : (held : Option Contents) (units : Units) (want : Want) (es : List Entry) (id : ℕ) (s : State) → id < length es → state_in (slice_get es id) ≡ State.Known → IsLoaded s
-  → WhereHeld held (λ h. FontOf h units want (entry_key (slice_get es id)) s) → Loads held units want es (with_state es id s) id
+    → WhereHeld held (λ h. FontOf h units want (entry_key (slice_get es id)) s) → Loads held units want es (with_state es id s) id
 loads_new held units want [] id s l k d w = absurd (omega arith)
 loads_new held units want (e ∷ es) zero s l k d w = (refl, subst (λ (old : State). LoadsAs held units want e.key old s) (sym k) (d, w), refl)
 loads_new held units want (e ∷ es) (suc id) s l k d w = (refl, loads_new held units want es id s (omega arith) k d w)
@@ -100,18 +100,18 @@ state_set (e ∷ es) zero s l = refl
 state_set (e ∷ es) (suc id) s l = state_set es id s (omega arith)
 
 pub loaded_new : (set : FontSet) (id : ℕ) (s : State) → id < length set.fonts → state_at set id ≡ State.Known → IsLoaded s
-  → Loaded set (record { units = set.units; want = set.want; fonts = with_state set.fonts id s }) id
+    → Loaded set (record { units = set.units; want = set.want; fonts = with_state set.fonts id s }) id
 unfolding state_at keys_now
 loaded_new set id s l k d =
     record {
       extends =
-        record {
-          units = refl;
-          want = refl;
-          more = omega (arith, set_length set.fonts id s);
-          keys = λ q i e. keeps_place set.fonts id s q ∙ e;
-          same = λ i h. others set.fonts id i s k h;
-        };
+          record {
+            units = refl;
+            want = refl;
+            more = omega (arith, set_length set.fonts id s);
+            keys = λ q i e. keeps_place set.fonts id s q ∙ e;
+            same = λ i h. others set.fonts id i s k h;
+          };
       keeps = keys_set set.fonts id s;
       loaded = subst IsLoaded (sym (state_set set.fonts id s l)) d;
     }

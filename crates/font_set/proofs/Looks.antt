@@ -101,7 +101,7 @@ key_named num den size (x ∷ ls) l a (suc n, h, e) =
 
 -- the key of a local font is the one that its number names
 pub key_number : (set : FontSet) (id : ℕ) (vf : VirtualFont) (l : LocalFont) (k : ℤ) → vf_in (state_at set id) ≡ Some vf → IsFit vf → Contains vf.locals l → l.k ≡ k
-  → key_in (locals_at set id) k ≡ (local_named set.units.num set.units.den (size_at set id) l).key
+    → key_in (locals_at set id) k ≡ (local_named set.units.num set.units.den (size_at set id) l).key
 key_number set id vf l k e f m s =
     ap (λ (fs : List Named). key_in fs k) (locals_are set id vf e) ∙ ap (λ (z : ℤ). key_in (map (local_named set.units.num set.units.den (size_at set id)) vf.locals) z) (sym s)
     ∙ key_named set.units.num set.units.den (size_at set id) vf.locals l f.apart m

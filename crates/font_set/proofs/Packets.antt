@@ -31,7 +31,7 @@ either false true r s h = absurd cc
 either false false r s h = cc
 
 packet_parts : (first : ℕ) (args : List ℕ) (p : CharacterPacket) (more : List ℕ) (a b : Bool)
-  → (if a then None else if b then None else Some (front first args)) ≡ Some (p, more) → (length p.commands ≤ length (first ∷ args)) × (length more ≤ length (first ∷ args))
+    → (if a then None else if b then None else Some (front first args)) ≡ Some (p, more) → (length p.commands ≤ length (first ∷ args)) × (length more ≤ length (first ∷ args))
 packet_parts first args p more a b h =
     let t = take_short (content_len first args) (drop (head_len first) args) in
     let d = drop_short (head_len first) args in

@@ -129,8 +129,8 @@ module _ (num den : ℤ) (size : ℕ) (l : LocalFont) (s d : ℤ) (s_is : s ≡ 
   unfolding local_key
   key_made e =
       rw (tests true e)
-        (ap (λ (z : ℤ). (let o : Option Key = Some (record { name = l.name; checksum = l.checksum; size = unsigned_abs z; design = unsigned_abs (local_design num den l.design) }) in o)) (sym s_is)
-         ∙ ap (λ (z : ℤ). (let o : Option Key = Some (record { name = l.name; checksum = l.checksum; size = unsigned_abs s; design = unsigned_abs z }) in o)) (sym d_is))
+      (ap (λ (z : ℤ). (let o : Option Key = Some (record { name = l.name; checksum = l.checksum; size = unsigned_abs z; design = unsigned_abs (local_design num den l.design) }) in o)) (sym s_is)
+      ∙ ap (λ (z : ℤ). (let o : Option Key = Some (record { name = l.name; checksum = l.checksum; size = unsigned_abs s; design = unsigned_abs z }) in o)) (sym d_is))
 
   pub none_made : (is_size s && is_size d) ≡ false → local_key num den size l ≡ None
   unfolding local_key

@@ -68,7 +68,7 @@ third_candidate set key r e l =
     (Contains-append_right (above_zero key (s - 1)) (above_zero key (s + 1)) (pk_name key r) (subst (λ (n : ℕ). Contains (above_zero key n) (pk_name key r)) e (one_candidate key r l)))
 
 pub candidate_not_read : (set : FontSet) (key : Key) (r : ℕ) (old new : Told) (e : FontFault) → WantsRasters set.want → (0 < r → Contains (pk_names set.units key) (pk_name key r))
-  → (name : FileName) × (text_of name ≡ pk_name key r) × (0 < r) × NotRead name most_file old new e → NotLoaded set key old new e
+    → (name : FileName) × (text_of name ≡ pk_name key r) × (0 < r) × NotRead name most_file old new e → NotLoaded set key old new e
 candidate_not_read set key r old new e w c h =
     not_read set key h.0 most_file old new e (inr (inr (w, subst (λ (t : List ℕ). Contains (pk_names set.units key) t) (sym h.1) (c h.2), refl))) h.3
 
@@ -152,8 +152,8 @@ module _ (set : FontSet) (key : Key) (a b : Told) (r : ℕ) (at : r ≡ resoluti
         within = f.2;
         held = held;
         first =
-          past a.held (above_zero key n) (above_zero key (n - 1) ++ above_zero key (n + 1)) (Some found.1.items) first_absent
-          (here a.held key (n - 1) (above_zero key (n + 1)) (text_of found.0) found.1.items (f.0 ∙ ap (λ (i : ℕ). pk_name key i) e) (subst (λ (i : ℕ). 0 < i) e f.1) held);
+            past a.held (above_zero key n) (above_zero key (n - 1) ++ above_zero key (n + 1)) (Some found.1.items) first_absent
+            (here a.held key (n - 1) (above_zero key (n + 1)) (text_of found.0) found.1.items (f.0 ∙ ap (λ (i : ℕ). pk_name key i) e) (subst (λ (i : ℕ). 0 < i) e f.1) held);
       }
 
   pub third_found : (c d : Told) (s t : ℕ) (found : FileName × Vec ℕ) → s ≡ resolution set.units key - 1 → t ≡ resolution set.units key + 1 → Keeps b c → CandidateGives key s b c None → CandidateGives key t c d (Some found) → IsPkFound set key a found
@@ -162,17 +162,17 @@ module _ (set : FontSet) (key : Key) (a b : Told) (r : ℕ) (at : r ≡ resoluti
       let held = held_before set key a b d k (λ held. held (text_of found.0) ≡ Some found.1.items) later in
       let n = resolution set.units key in
       let second : WhereHeld a.held (λ held. first_of held (above_zero key (n - 1)) ≡ None) =
-        held_before set key a b c k (λ held. first_of held (above_zero key (n - 1)) ≡ None)
-        (subst (λ (j : ℕ). WhereHeld b.held (λ held. first_of held (above_zero key j) ≡ None)) e g.1) in
+      held_before set key a b c k (λ held. first_of held (above_zero key (n - 1)) ≡ None)
+      (subst (λ (j : ℕ). WhereHeld b.held (λ held. first_of held (above_zero key j) ≡ None)) e g.1) in
       let last : WhereHeld a.held (λ held. first_of held (above_zero key (n + 1)) ≡ Some found.1.items) =
-        one a.held key (n + 1) (text_of found.0) found.1.items (f.0 ∙ ap (λ (j : ℕ). pk_name key j) i) (omega arith) held in
+      one a.held key (n + 1) (text_of found.0) found.1.items (f.0 ∙ ap (λ (j : ℕ). pk_name key j) i) (omega arith) held in
       record {
         candidate = subst (λ (x : List ℕ). Contains (pk_names set.units key) x) (sym f.0) (third_candidate set key t i f.1);
         within = f.2;
         held = held;
         first =
-          past a.held (above_zero key n) (above_zero key (n - 1) ++ above_zero key (n + 1)) (Some found.1.items) first_absent
-          (past a.held (above_zero key (n - 1)) (above_zero key (n + 1)) (Some found.1.items) second last);
+            past a.held (above_zero key n) (above_zero key (n - 1) ++ above_zero key (n + 1)) (Some found.1.items) first_absent
+            (past a.held (above_zero key (n - 1)) (above_zero key (n + 1)) (Some found.1.items) second last);
       }
 
 -- ---- files that were read

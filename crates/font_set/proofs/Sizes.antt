@@ -118,8 +118,8 @@ pub tfm_fine : (bytes : List ℕ) (tfm : Table) → ((i : ℕ) → slice_index b
 unfolding widths_below
 tfm_fine bytes tfm b t code l =
     let same : width_in tfm code ≡ width_of bytes code =
-        ap (λ (ws : List (Option ℤ)). (let o : Option ℤ = slice_index_or ws code None in o)) t.widths
-        ∙ get_or-map-range_with_len (width_of bytes) 0 256 code code None l (omega arith) in
+    ap (λ (ws : List (Option ℤ)). (let o : Option ℤ = slice_index_or ws code None in o)) t.widths
+    ∙ get_or-map-range_with_len (width_of bytes) 0 256 code code None l (omega arith) in
     subst IsFine (sym same) (fine_width bytes code b t.sound)
 
 -- ---- resolutions
@@ -139,7 +139,7 @@ pub mag_is : (units : Units) → AreUnits units → to_z w64 (of_z w64 units.mag
 mag_is units u = to_z-of_z w64 units.mag (fits_signed_from_abs w64 units.mag (omega (arith, abs_below units.mag (2 ^ 31) u.usable.mag u.mag)))
 
 pub resolution_fits : (units : Units) (d m s g : ℕ) → AreUnits units → d ≡ unsigned_abs units.dpi → m ≡ unsigned_abs units.mag → IsUnits s → IsUnits g
-  → (2 * (d * m * s) < 2 ^ 80) × (2 * (d * m * s) + 1000 * g < 2 ^ 90) × ((2 * (d * m * s) + 1000 * g) / (2 * (1000 * g)) < 2 ^ 63)
+    → (2 * (d * m * s) < 2 ^ 80) × (2 * (d * m * s) + 1000 * g < 2 ^ 90) × ((2 * (d * m * s) + 1000 * g) / (2 * (1000 * g)) < 2 ^ 63)
 resolution_fits units d m s g u a b i j =
     let dots : d ≤ 10000 = omega (arith, a, abs_most units.dpi 10000 u.usable.dpi u.dpi) in
     let magnified : m ≤ 2 ^ 31 = omega (arith, b, abs_below units.mag (2 ^ 31) u.usable.mag u.mag) in
@@ -149,7 +149,7 @@ resolution_fits units d m s g u a b i j =
     (omega (arith, three), omega (arith, three, j.1), (div-lt_iff_lt-mul (omega (arith, j.0))).1 less)
 
 pub resolution_is : (units : Units) (key : Key) (d m s g : ℕ) → d ≡ unsigned_abs units.dpi → m ≡ unsigned_abs units.mag → s ≡ key.size → g ≡ key.design
-  → (2 * (d * m * s) + 1000 * g) / (2 * (1000 * g)) ≡ resolution units key
+    → (2 * (d * m * s) + 1000 * g) / (2 * (1000 * g)) ≡ resolution units key
 unfolding resolution
 resolution_is units key d m s g a b e f = rw (a, b, e, f) refl
 

@@ -18,3 +18,6 @@ pub mod Expand
 pub mod LoadFaults
 pub mod Search
 pub mod Laws
+pub mod Progress
+pub mod Found
+pub mod Asking

@@ -9,6 +9,8 @@ use Rattle.dvi_ops.specs.Command.Command.{Set, Put, Fnt}
 use Rattle.dvi_ops.specs.Placed.{Placed}
 use Rattle.tfm_widths.specs.Widths.{width_in}
 use Rattle.vf_packets.specs.Font.{VirtualFont, LocalFont, packet_of}
+use Rattle.pk_raster.specs.Font.{Font, Known, glyph_at}
+use Rattle.pk_raster.specs.Font.Known.{Nothing, Large}
 use Rattle.font_set.specs.Key.{Key}
 use Rattle.font_set.specs.LocalKey.{local_design, local_key}
 use Rattle.font_set.specs.Fonts.{State, FontSet, place_of, state_at, size_at, width_at, packet_at, IsVirtual}
@@ -72,12 +74,25 @@ SetsIn set id z program = (at : ℕ) × (c : CommandOf program at) × IsCharComm
 abbrev pub HasNoWidth : FontSet → ℕ → ℤ → Type 0
 HasNoWidth set id z = ((c : ℕ) → z ≡ pos c → 255 < c) ⊎ ((c : ℕ) × (z ≡ pos c) × (width_at set id c ≡ None))
 
+-- what the bitmaps of a font tell of a code
+abbrev pub look_by : Option Font → ℕ → Option Known
+look_by None code = None
+look_by (Some pk) code = Some (glyph_at pk code)
+
+abbrev pub look_in : State → ℕ → Option Known
+look_in State.Known code = None
+look_in (State.Real tfm pk) code = look_by pk code
+look_in (State.Virtual tfm vf) code = None
+
+unfoldable pub look_at : FontSet → ℕ → ℕ → Option Known
+look_at set id code = look_in (state_at set id) code
+
 -- LoadFault's own sentences, for the frames of a page. (What stands in files is FontFault's.)
 abbrev pub LoadFaultIs : FontSet → Program → LoadFault → Type 0
 LoadFaultIs set page (load.UndefinedFont s) = InFrame set page s SelectsNone
 LoadFaultIs set page (load.NoFont s) = InFrame set page s SetsNowhere
 LoadFaultIs set page (load.NoChar id z) = InSome set page (SetsIn set id z) × HasNoWidth set id z
 LoadFaultIs set page (load.NoPacket id code) = InSome set page (SetsIn set id (pos code)) × IsVirtual (state_at set id) × (packet_at set id code ≡ None)
-LoadFaultIs set page (load.NoGlyph id code) = InSome set page (SetsIn set id (pos code))
-LoadFaultIs set page (load.GlyphTooBig id code bytes) = InSome set page (SetsIn set id (pos code))
+LoadFaultIs set page (load.NoGlyph id code) = InSome set page (SetsIn set id (pos code)) × (look_at set id code ≡ Some Nothing)
+LoadFaultIs set page (load.GlyphTooBig id code bytes) = InSome set page (SetsIn set id (pos code)) × (look_at set id code ≡ Some (Large bytes))
 LoadFaultIs set page (load.Font f) = Unit {0}

@@ -1,29 +1,34 @@
 -- The search for the fonts of a page: frames as they stand in bytes.
-use Rattle.std.specs.Prelude.{◌≡◌, ◌≢◌, ◌<◌, ◌≤◌, ◌⊎◌, ℕ, zero, suc, ◌+◌, ℤ, pos, Bool, true, false, List, [], ◌∷◌, ◌++◌, map, length, drop, reverse, Option, Some, None, slice_get, nat_eq, fold, if◌then◌else◌}
+use Rattle.std.specs.Prelude.{◌≡◌, ◌≢◌, ◌<◌, ◌≤◌, ◌⊎◌, ℕ, zero, suc, ◌+◌, ℤ, pos, Bool, true, false, List, [], ◌∷◌, ◌++◌, map, length, drop, reverse, Option, Some, None, slice_get, slice_range, nat_eq, fold, if◌then◌else◌}
 use Rattle.dv_base.specs.declared.font_id.Spot.{Spot}
 use Rattle.dv_base.specs.declared.font_id.Spot.TheVariants as spot
 use Rattle.dvi_ops.specs.Command.{Command, Definition}
 use Rattle.dvi_ops.specs.Command.Command.{Set, Put, Fnt}
 use Rattle.dvi_ops.specs.Placed.{Placed, Lexes}
 use Rattle.dvi_doc.specs.declared.font.FontKey.{FontKey}
-use Rattle.font_set.specs.Key.{Key, same_key, blank_key}
+use Rattle.font_set.specs.Key.{Key, IsKey, same_key, blank_key}
 use Rattle.font_set.specs.Fonts.{State, Entry, FontSet, place_of, state_at, size_at, packet_at, width_at, IsLoaded, IsVirtual}
 use Rattle.dvi_ops.specs.Reading.{commands_in}
-use Rattle.font_set.specs.Programs.{Named, Scope, Program, HasNumber, key_in, page_program, program_at}
-use Rattle.font_set.specs.Growth.{Extends, Learnt, Loaded}
-use Rattle.font_set.specs.Acts.{Act}
+use Rattle.font_set.specs.Programs.{Named, Scope, Program, HasNumber, key_in, page_program, program_at, locals_at}
+use Rattle.indexmap.specs.IndexSet.{insert_key}
+use Rattle.dvi_doc.specs.View.{Outline, ReadDoc}
+use Rattle.font_set.specs.Growth.{Extends, Learnt, Loaded, keys_now}
+use Rattle.font_set.specs.Locals.{FirstAnswer}
+use Rattle.font_set.specs.Acts.{Act, Inside}
 use Rattle.font_set.specs.Frames.{Char, FontAct, acts_of, body}
 use Rattle.font_set.specs.Covers.{IsShown}
 use Rattle.font_set.specs.Views.{key_of}
-use Rattle.font_set.specs.LoadFaults.{IsCharCommand, HasNoWidth}
+use Rattle.font_set.specs.LoadFaults.{IsCharCommand, HasNoWidth, look_at, look_by}
+use Rattle.pk_raster.specs.Font.{Font}
+use Rattle.pk_raster.specs.Font.Known.{Nothing, Large}
 use Rattle.font_set.specs.declared.fault.LoadFault.{LoadFault}
 use Rattle.font_set.specs.declared.fault.LoadFault.TheVariants as load
-use Rattle.font_set.specs.declared.load.Home.{Home}
-use Rattle.font_set.specs.declared.load.Home.TheVariants as home
-use Rattle.font_set.specs.declared.load.Place.{Place}
-use Rattle.font_set.specs.declared.load.Does.{Does}
-use Rattle.font_set.specs.declared.load.Does.TheVariants as does
-use Rattle.font_set.specs.declared.load.Turn.{Turn}
+use Rattle.font_set.specs.declared.agenda.Home.{Home}
+use Rattle.font_set.specs.declared.agenda.Home.TheVariants as home
+use Rattle.font_set.specs.declared.agenda.Place.{Place}
+use Rattle.font_set.specs.declared.turn.Does.{Does}
+use Rattle.font_set.specs.declared.turn.Does.TheVariants as does
+use Rattle.font_set.specs.declared.turn.Turn.{Turn}
 
 -- ---- frames as they stand in bytes
 
@@ -71,6 +76,11 @@ module _ (set : FontSet) where
   IsSel (Some k) None = ⊥
   IsSel (Some k) (Some id) = place_of set.fonts k ≡ Some id
 
+-- the fonts of a frame by their numbers
+abbrev pub fonts_of : FontSet → Program → Home → List Named
+fonts_of set page home.Page = page.scope.fonts
+fonts_of set page (home.Packet id code) = locals_at set id
+
 abbrev pub first_of : ℕ → Home → ℕ
 first_of first home.Page = first
 first_of first (home.Packet id code) = 0
@@ -89,6 +99,11 @@ Tells scope (Put z) does.Nothing = ⊥
 Tells scope _ does.Nothing = Unit {0}
 Tells scope c (does.Selects key) = (k : ℤ) × (c ≡ Fnt k) × (key_in scope.fonts k ≡ Some (key_of key))
 Tells scope c (does.Sets z) = IsCharCommand c z
+
+-- a key that is selected may be made known
+abbrev pub IsSelectable : Does → Type 0
+IsSelectable (does.Selects key) = IsKey (key_of key)
+IsSelectable _ = Unit {0}
 
 -- The next of the commands, and what is behind it.
 pub record Next (from at next : ℕ) (bytes : List ℕ) (rest : List Placed) : Type 0 where
@@ -109,19 +124,37 @@ IsTurnFault h scope from at bytes _ = ⊥
 abbrev pub IsCharFault : FontSet → ℕ → ℤ → LoadFault → Type 0
 IsCharFault set id z (load.NoChar i y) = (i ≡ id) × (y ≡ z) × HasNoWidth set id z
 IsCharFault set id z (load.NoPacket i code) = (i ≡ id) × (z ≡ pos code) × IsVirtual (state_at set id) × (packet_at set id code ≡ None)
+IsCharFault set id z (load.NoGlyph i code) = (i ≡ id) × (z ≡ pos code) × (look_at set id code ≡ Some Nothing)
+IsCharFault set id z (load.GlyphTooBig i code bytes) = (i ≡ id) × (z ≡ pos code) × (look_at set id code ≡ Some (Large bytes))
 IsCharFault set id z _ = ⊥
 
--- the first local font of a packet, by its key
-abbrev pub IsFirst : Option Named → Option FontKey → Type 0
-IsFirst None None = Unit {0}
-IsFirst None (Some key) = ⊥
-IsFirst (Some f) None = ⊥
-IsFirst (Some f) (Some key) = f.key ≡ Some (key_of key)
+-- why the bitmap of a character isn't there
+abbrev pub IsLookFault : Option Font → ℕ → ℕ → LoadFault → Type 0
+IsLookFault pk id code (load.NoGlyph i c) = (i ≡ id) × (c ≡ code) × (look_by pk code ≡ Some Nothing)
+IsLookFault pk id code (load.GlyphTooBig i c bytes) = (i ≡ id) × (c ≡ code) × (look_by pk code ≡ Some (Large bytes))
+IsLookFault pk id code _ = ⊥
+
+-- why a character can't be met
+abbrev pub MeetFault : FontSet → ℕ → ℤ → LoadFault → Type 0
+MeetFault set id z (load.Font f) = Unit {0}
+MeetFault set id z e = IsCharFault set id z e
+
+-- the key may be made known
+abbrev pub IsFirstKey : Option FontKey → Type 0
+IsFirstKey None = Unit {0}
+IsFirstKey (Some key) = IsKey (key_of key)
+
+-- no font was loaded, nor any but this one
+abbrev pub SameStates : FontSet → FontSet → Type 0
+SameStates old new = (i : ℕ) → state_at new i ≡ state_at old i
+
+abbrev pub LoadsOnly : FontSet → FontSet → ℕ → Type 0
+LoadsOnly old new id = (i : ℕ) → (i ≡ id → ⊥) → state_at new i ≡ state_at old i
 
 -- the first font of a packet was made known
 abbrev pub LearntFirst : FontSet → FontSet → Option FontKey → Option ℕ → Type 0
 LearntFirst old new None o = (new ≡ old) × (o ≡ None)
-LearntFirst old new (Some key) o = Learnt old new (key_of key) × (id : ℕ) × (o ≡ Some id) × (place_of new.fonts (key_of key) ≡ Some id)
+LearntFirst old new (Some key) o = Learnt old new (key_of key) × SameStates old new × (id : ℕ) × (o ≡ Some id) × (place_of new.fonts (key_of key) ≡ Some id)
 
 -- ---- the frames of a page as the packets of one search
 
@@ -134,3 +167,15 @@ rooted page set ch = if nat_eq ch.code 256 then acts_of page else body set ch
 
 abbrev pub moves : Place → ℕ → Option ℕ → Place
 moves p next font = record { home = p.home; at = next; end = p.end; font = font }
+
+-- Where the page has an expansion, its keys were made known in their order, each new one once.
+abbrev pub InOrder : FontSet → FontSet → Program → Type 0
+InOrder old new page = (n : ℕ) (all : List Key) → Inside (rooted page new) n root all → keys_now new ≡ fold (insert_key same_key) (keys_now old) all
+
+abbrev pub program_in : ReadDoc → Option Outline → Program
+program_in doc None = empty_program
+program_in doc (Some p) = page_in doc.fonts p.first (slice_range doc.bytes p.first p.eop)
+
+-- the commands of a page, by its place in the document
+unfoldable pub page_of : ReadDoc → ℕ → Program
+page_of doc page = program_in doc (slice_get doc.pages page)

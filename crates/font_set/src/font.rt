@@ -12,15 +12,9 @@ use vf_packets::Vf;
 pub enum Font {
     Known,
     /// A font with characters of its own; the bitmaps are there where the run wants them.
-    Real {
-        tfm: Tfm,
-        pk: Option<Pk>,
-    },
+    Real { tfm: Tfm, pk: Option<Pk> },
     /// A font whose characters are commands.
-    Virtual {
-        tfm: Tfm,
-        vf: Vf,
-    },
+    Virtual { tfm: Tfm, vf: Vf },
 }
 
 /// Whether two checksums are both told, and differ.

@@ -12,16 +12,20 @@
 //! ```
 #![tactic(auto)]
 
+mod agenda;
 mod fault;
 mod files;
 mod font;
 mod fonts;
 mod laws;
 mod load;
+#[cfg(test)]
+mod load_tests;
 mod local;
 mod look;
 #[cfg(test)]
 mod tests;
+mod turn;
 mod want;
 
 pub use fault::{FontFault, FontKeyParts, LoadFault};

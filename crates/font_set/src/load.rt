@@ -1,70 +1,40 @@
-//! The fonts of a page.
-ghost use Rattle.std.specs.Prelude.{◌≡◌, ◌<◌, ◌≤◌, ◌^◌, ◌+◌, ◌⊎◌, ℕ, pos, List, [], ◌∷◌, ◌++◌, length, Some, IfOk, IfErr, OnOk, OnErr, fold};
-ghost use Rattle.dvi_ops.specs.Placed.{Placed, Lexes};
-ghost use Rattle.indexmap.specs.IndexSet.{insert_key};
-ghost use Rattle.font_set.specs.Key.{Key, same_key};
-ghost use Rattle.font_set.specs.Fonts.{FontSet, place_of, state_at, IsLoaded};
-ghost use Rattle.font_set.specs.Covers.{Covers, IsShown};
-ghost use Rattle.font_set.specs.Acts.{Inside};
+//! The fonts of a page: each font that a frame of the page selects becomes known, and each in which a character is set is loaded.
+//!
+//! A frame is the page or a packet. The search goes over the commands of a frame; where a character is set whose packet wasn't run
+//! before, it goes over that packet first. So each packet is read once, whatever runs it, and packets may stand in one another without
+//! limit, or run themselves.
+ghost use Rattle.std.specs.Prelude.{◌≡◌, ◌<◌, ◌≤◌, ◌^◌, ◌+◌, ◌-◌, ◌*◌, MatchBool, ℕ, pos, List, [], ◌∷◌, length, None, IfOk, IfErr, OnOk, OnErr};
+ghost use Rattle.dvi_ops.specs.Placed.{Lexes};
+ghost use Rattle.font_set.specs.Key.{IsKey};
+ghost use Rattle.font_set.specs.Fonts.{FontSet, state_at, width_at, IsLoaded};
+ghost use Rattle.font_set.specs.Covers.{Covers, IsShown, HasBitmap};
 ghost use Rattle.font_set.specs.Frames.{acts_of};
 ghost use Rattle.font_set.specs.Views.{key_of};
-ghost use Rattle.font_set.specs.Programs.{page_program};
-ghost use Rattle.font_set.specs.declared.load.Home.TheVariants as home;
+ghost use Rattle.font_set.specs.declared.agenda.Home.TheVariants as home;
+ghost use Rattle.font_set.specs.declared.turn.Does.TheVariants as does;
 ghost use Rattle.font_set.specs.LoadFaults.{LoadFaultIs};
-ghost use Rattle.font_set.specs.Growth.{Extends, Learnt, Loaded, keys_now};
-ghost use Rattle.font_set.specs.Search.{LearntFirst, IsHome, IsTurn, IsTurnFault, IsCharFault, IsFirst, program_of, program_or, bytes_of, first_of, spot_at, moves, page_in, rooted, root};
+ghost use Rattle.dvi_doc.specs.View.{IsRead};
+ghost use Rattle.font_set.specs.Growth.{Extends};
+ghost use Rattle.font_set.specs.Locals.{FirstAnswer};
+ghost use Rattle.font_set.specs.Search.{LearntFirst, IsFirstKey, IsCharFault, IsLookFault, MeetFault, InOrder, program_or, bytes_of, page_in, page_of};
+ghost use Rattle.font_set.specs.Found.{FoundAt, Reads, Steps, Opens, Meets, IsPage, IsPlaced, WasMet, LoadsSet};
 
+use crate::agenda::{Agenda, Home, Place};
 use crate::fault::{FontFault, LoadFault};
+use crate::font::Font;
 use crate::fonts::Fonts;
-use dv_base::{FontId, Shelf, Spot};
+use crate::turn::{Does, Sheet, Turn};
+use dv_base::{FontId, Shelf};
 use dvi_doc::{Doc, FontKey};
 use dvi_ops::one_reading;
-use std::alloc::{AllocError, Global};
-
-/// Where commands stand: in a page, or in the packet of a character.
-#[derive(Clone, Copy, Drop)]
-pub enum Home {
-    Page,
-    Packet { font: u32, code: u8 },
-}
-
-/// A place in the bytes of a frame, where they end, and the font that is selected there.
-#[derive(Clone, Copy, Drop)]
-pub struct Place {
-    pub home: Home,
-    pub at: usize,
-    pub end: usize,
-    pub font: Option<u32>,
-}
-
-/// What a command does with fonts.
-#[derive(Clone, Copy, Drop)]
-pub enum Does {
-    Nothing,
-    Selects(FontKey),
-    Sets(i64),
-}
-
-/// A command that was read, and where the next one stands.
-#[derive(Clone, Copy, Drop)]
-pub struct Turn {
-    pub next: usize,
-    pub does: Does,
-}
+use pk_raster::{Look, Pk};
+use std::alloc::AllocError;
 
 /// How a packet begins: how many bytes it has, and in which font.
 #[derive(Clone, Copy, Drop)]
 pub struct Begin {
     pub end: usize,
     pub first: Option<FontKey>,
-}
-
-/// A page: its document, the place of its first command, and its bytes.
-#[derive(Clone, Copy)]
-pub struct Sheet<'a> {
-    pub doc: &'a Doc<'a>,
-    pub first: u32,
-    pub bytes: &'a [u8],
 }
 
 impl From<FontFault> for LoadFault {
@@ -88,82 +58,70 @@ impl From<AllocError> for LoadFault {
     }
 }
 
-/// Puts a place on the stack.
-fn put(stack: &mut Vec<Place>, place: &Place) -> Result<(), AllocError>
-    ensures { OnOk result (stack.new.items ≡ stack.old.items ++ place.now ∷ []) }
-{
-    stack.push(*place)?;
-    Ok(())
-}
-
 impl Fonts {
-    /// The id with this number.
-    fn numbered(&self, number: u32) -> FontId
-        requires given { number < length self.now.fonts }
-        ensures { result ≡ number }
-    {
-        match FontId::new(number) {
-            Some(id) => id,
-            None => unreachable!(),
-        }
-    }
-
-    /// The spot of the command at a place.
-    fn spot(&self, sheet: &Sheet<'_>, place: &Place) -> Spot
-        requires given { IsHome self.now place.now.home }
-        requires short { first_of sheet.now.first place.now.home + place.now.at < 2 ^ 32 }
-        ensures { result ≡ spot_at place.now.home (first_of sheet.now.first place.now.home + place.now.at) }
-    {
-        match place.home {
-            Home::Page => Spot::Page {
-                at: sheet.first + place.at as u32,
-            },
-            Home::Packet { font, code } => Spot::Packet {
-                font: self.numbered(font),
-                code,
-                at: place.at as u32,
-            },
-        }
-    }
-}
-
-impl Fonts {
-    /// Reads the command at a place.
-    fn turn(&self, sheet: &Sheet<'_>, place: &Place) -> Result<Turn, LoadFault>
-        requires given { IsHome self.now place.now.home }
-        requires inside { place.now.at < place.now.end }
-        requires ends { length (bytes_of self.now sheet.now.bytes.now place.now.home) ≡ place.now.end }
-        ensures further { IfOk result (λ t. (place.now.at < t.next) × (t.next ≤ place.now.end)) }
-        ensures read { IfOk result (λ t. (cs : List Placed) → IsTurn (program_of self.now (page_program sheet.now.doc.now.fonts cs) place.now.home).scope (first_of sheet.now.first place.now.home) place.now.at (bytes_of self.now sheet.now.bytes.now place.now.home) t) }
-        ensures fault { IfErr result (λ e. (cs : List Placed) → IsTurnFault place.now.home (program_of self.now (page_program sheet.now.doc.now.fonts cs) place.now.home).scope (first_of sheet.now.first place.now.home) place.now.at (bytes_of self.now sheet.now.bytes.now place.now.home) e) }
-    {
-        unreachable!()
-    }
-
     /// The code of a character that can be shown.
     fn shown(&self, id: FontId, z: i64) -> Result<u8, LoadFault>
         requires given { id < length self.now.fonts }
         requires loaded { IsLoaded (state_at self.now id) }
-        ensures ok { IfOk result (λ code. (z ≡ pos code) × IsShown (state_at self.now id) code) }
-        ensures fault { IfErr result (λ e. IsCharFault self.now id z e) }
+        ensures code { IfOk result (λ code. (z ≡ pos code) × (code < 256)) }
+        ensures shown { IfOk result (λ code. IsShown (state_at self.now id) code) }
+        ensures fault { IfErr result (IsCharFault self.now id z) }
     {
-        unreachable!()
+        let Ok(code) = u8::try_from(z) else {
+            return Err(LoadFault::NoChar(id, z));
+        };
+        if self.width(id, code).is_none() {
+            return Err(LoadFault::NoChar(id, z));
+        }
+        self.drawn(id, code)?;
+        Ok(code)
     }
 
-    /// How the packet of a character begins.
+    /// Looks for the bitmap or the packet of a character that has a width.
+    fn drawn(&self, id: FontId, code: u8) -> Result<(), LoadFault>
+        requires given { id < length self.now.fonts }
+        requires loaded { IsLoaded (state_at self.now id) }
+        requires wide { width_at self.now id code ≡ None → ⊥ }
+        ensures ok { OnOk result (IsShown (state_at self.now id) code) }
+        ensures fault { IfErr result (IsCharFault self.now id (pos code)) }
+    {
+        match self.font(id) {
+            Font::Known => Ok(()),
+            Font::Real { pk, .. } => has_bitmap(pk, id, code),
+            Font::Virtual { vf, .. } => match vf.packet(code) {
+                Some(_) => Ok(()),
+                None => Err(LoadFault::NoPacket(id, code)),
+            },
+        }
+    }
+
+    /// How the packet of a character begins: that of a real font has no bytes.
     fn begin(&self, id: FontId, code: u8) -> Result<Begin, FontFault>
         requires given { id < length self.now.fonts }
-        requires shown { IsShown (state_at self.now id) code }
         ensures end { IfOk result (λ b. length (bytes_of self.now [] (home.Packet id code)) ≡ b.end) }
         ensures short { IfOk result (λ b. b.end ≤ 4194304) }
-        ensures lexed { IfOk result (λ b. Lexes 0 (bytes_of self.now [] (home.Packet id code)) (program_or self.now id code).commands) }
-        ensures first { IfOk result (λ b. IsFirst (program_or self.now id code).first b.first) }
+        ensures lexed { OnOk result (Lexes 0 (bytes_of self.now [] (home.Packet id code)) (program_or self.now id code).commands) }
+        ensures first { IfOk result (λ b. FirstAnswer (program_or self.now id code).first b.first) }
     {
-        unreachable!()
+        one_reading();
+        let Some(bytes) = self.packet(id, code) else {
+            return Ok(Begin {
+                end: 0,
+                first: None,
+            });
+        };
+        let end = bytes.len();
+        match self.first_key(id) {
+            Ok(first) => Ok(Begin { end, first }),
+            Err(parts) => Err(FontFault::BadSize(parts)),
+        }
     }
+}
 
+impl Fonts {
     /// Makes the first font of a packet known.
     fn know_first(&mut self, first: Option<FontKey>) -> Result<Option<u32>, FontFault>
+        requires { IsFirstKey first }
         ensures learnt { IfOk result (λ o. LearntFirst self.old self.new first o) }
         ensures same { OnErr result (self.new ≡ self.old) }
     {
@@ -176,120 +134,244 @@ impl Fonts {
         }
     }
 
-    /// Selects a font.
-    pub fn select_at(
-        &mut self,
-        place: &Place,
-        next: usize,
-        key: &FontKey,
-        stack: &mut Vec<Place>,
-    ) -> Result<(), LoadFault>
-        ensures ok { OnOk result ((id : ℕ) × Learnt self.old self.new (key_of key.now) × (place_of self.new.fonts (key_of key.now) ≡ Some id) × (stack.new.items ≡ stack.old.items ++ moves place.now next (Some id) ∷ [])) }
-        ensures bad { OnErr result ((self.new ≡ self.old) ⊎ Extends self.old self.new) }
+    /// Opens the packet of a character.
+    fn open_packet(&mut self, id: FontId, code: u8, agenda: &mut Agenda) -> Result<(), LoadFault>
+        requires given { id < length self.old.fonts }
+        requires shown { IsShown (state_at self.old id) code }
+        ensures opens { OnOk result (Opens self.old self.new id code agenda.old agenda.new) }
+        ensures extends { OnErr result (Extends self.old self.new) }
+        ensures fault { IfErr result (MeetFault self.new id (pos code)) }
     {
-        let id = self.know(key)?;
-        let home = place.home;
-        let end = place.end;
-        let number = id.number();
-        let later = Place {
+        agenda.meet(id, code);
+        let begin = self.begin(id, code)?;
+        let first = self.know_first(begin.first)?;
+        let end = begin.end;
+        let font = id.number();
+        let home = Home::Packet { font, code };
+        let place = Place {
             home,
-            at: next,
+            at: 0,
             end,
-            font: Some(number),
+            font: first,
         };
-        put(stack, &later)?;
+        agenda.push(&place)?;
         Ok(())
     }
 
-    /// Loads the fonts in which characters are set in the frames of a page.
-    pub fn load_page<S: Shelf>(&mut self, shelf: &mut S, sheet: &Sheet<'_>) -> Result<(), LoadFault>
-        requires short { sheet.now.first + length sheet.now.bytes.now < 2 ^ 31 }
-        requires ready { (cs : List Placed) × Lexes sheet.now.first sheet.now.bytes.now cs }
-        ensures extends { Extends self.old self.new }
-        ensures covers { OnOk result (Covers self.new (acts_of (page_in sheet.now.doc.now.fonts sheet.now.first sheet.now.bytes.now))) }
-        ensures order { OnOk result ((n : ℕ) (all : List Key) → Inside (rooted (page_in sheet.now.doc.now.fonts sheet.now.first sheet.now.bytes.now) self.new) n root all → keys_now self.new ≡ fold (insert_key same_key) (keys_now self.old) all) }
-        ensures fault { IfErr result (λ e. LoadFaultIs self.new (page_in sheet.now.doc.now.fonts sheet.now.first sheet.now.bytes.now) e) }
+    /// Meets a character of a font for the first time.
+    fn meet<S: Shelf>(
+        &mut self,
+        shelf: &mut S,
+        id: FontId,
+        z: i64,
+        agenda: &mut Agenda,
+    ) -> Result<(), LoadFault>
+        requires given { id < length self.old.fonts }
+        ensures meets { OnOk result (Meets self.old self.new id z agenda.old agenda.new) }
+        ensures extends { OnErr result (Extends self.old self.new) }
+        ensures fault { IfErr result (MeetFault self.new id z) }
     {
-        one_reading();
+        self.load(shelf, id)?;
+        let code = self.shown(id, z)?;
+        self.open_packet(id, code, agenda)
+    }
+
+    /// Passes over a command that is nothing to fonts.
+    fn pass(
+        &self,
+        sheet: &Sheet<'_>,
+        place: &Place,
+        turn: &Turn,
+        agenda: &mut Agenda,
+    ) -> Result<(), LoadFault>
+        requires read { Reads sheet.now self.now place.now turn.now }
+        requires does { turn.now.does ≡ does.Nothing }
+        ensures steps { OnOk result (Steps sheet.now place.now self.now self.now agenda.old agenda.new) }
+        ensures fault { IfErr result (LoadFaultIs self.now sheet.now.page) }
+    {
+        agenda.push(&moved(place, turn.next, place.font))?;
+        Ok(())
+    }
+
+    /// Selects a font.
+    fn select(
+        &mut self,
+        sheet: &Sheet<'_>,
+        place: &Place,
+        turn: &Turn,
+        key: &FontKey,
+        agenda: &mut Agenda,
+    ) -> Result<(), LoadFault>
+        requires read { Reads sheet.now self.old place.now turn.now }
+        requires does { turn.now.does ≡ does.Selects key.now }
+        requires key { IsKey (key_of key.now) }
+        ensures steps { OnOk result (Steps sheet.now place.now self.old self.new agenda.old agenda.new) }
+        ensures extends { OnErr result (Extends self.old self.new) }
+        ensures fault { IfErr result (LoadFaultIs self.new sheet.now.page) }
+    {
+        let id = self.know(key)?;
+        let font = Some(id.number());
+        agenda.push(&moved(place, turn.next, font))?;
+        Ok(())
+    }
+
+    /// Sets a character.
+    fn set<S: Shelf>(
+        &mut self,
+        shelf: &mut S,
+        sheet: &Sheet<'_>,
+        place: &Place,
+        turn: &Turn,
+        z: i64,
+        agenda: &mut Agenda,
+    ) -> Result<(), LoadFault>
+        requires read { Reads sheet.now self.old place.now turn.now }
+        requires does { turn.now.does ≡ does.Sets z }
+        requires found { (old : FontSet) × FoundAt sheet.now old self.old agenda.old.met (place.now ∷ agenda.old.places) }
+        ensures steps { OnOk result (Steps sheet.now place.now self.old self.new agenda.old agenda.new) }
+        ensures extends { OnErr result (Extends self.old self.new) }
+        ensures fault { IfErr result (LoadFaultIs self.new sheet.now.page) }
+    {
+        let Some(number) = place.font else {
+            return Err(LoadFault::NoFont(self.spot(sheet, place)));
+        };
+        let id = self.numbered(number);
+        agenda.push(&moved(place, turn.next, place.font))?;
+        if was_met(agenda, id, z) {
+            return Ok(());
+        }
+        self.meet(shelf, id, z, agenda)
+    }
+
+    /// Runs the command at the last open place.
+    fn step<S: Shelf>(
+        &mut self,
+        shelf: &mut S,
+        sheet: &Sheet<'_>,
+        place: &Place,
+        agenda: &mut Agenda,
+    ) -> Result<(), LoadFault>
+        requires inside { place.now.at < place.now.end }
+        requires found { (old : FontSet) × FoundAt sheet.now old self.old agenda.old.met (place.now ∷ agenda.old.places) }
+        ensures steps { OnOk result (Steps sheet.now place.now self.old self.new agenda.old agenda.new) }
+        ensures extends { OnErr result (Extends self.old self.new) }
+        ensures fault { IfErr result (LoadFaultIs self.new sheet.now.page) }
+    {
+        let turn = self.turn(sheet, place)?;
+        let does = turn.does;
+        match does {
+            Does::Nothing => self.pass(sheet, place, &turn, agenda),
+            Does::Selects(key) => self.select(sheet, place, &turn, &key, agenda),
+            Does::Sets(z) => self.set(shelf, sheet, place, &turn, z, agenda),
+        }
+    }
+
+    /// Goes over all frames of a page.
+    fn search<S: Shelf>(&mut self, shelf: &mut S, sheet: &Sheet<'_>) -> Result<(), LoadFault>
+        requires { IsPage sheet.now }
+        ensures extends { Extends self.old self.new }
+        ensures covers { OnOk result (Covers self.new (acts_of sheet.now.page)) }
+        ensures order { OnOk result (InOrder self.old self.new sheet.now.page) }
+        ensures loads { OnOk result (LoadsSet self.old self.new (acts_of sheet.now.page)) }
+        ensures fault { IfErr result (LoadFaultIs self.new sheet.now.page) }
+    {
         let alloc = self.alloc;
-        let mut visited = vec![in alloc; false; 256_000]?;
-        let mut stack = Vec::new(alloc);
-        let bytes = sheet.bytes;
-        let end = bytes.len();
-        put(
-            &mut stack,
-            &Place {
-                home: Home::Page,
-                at: 0,
-                end,
-                font: None,
-            },
-        )?;
-        while let Some(place) = stack.pop() {
-            let home = place.home;
-            let at = place.at;
-            let end = place.end;
-            let font = place.font;
-            if at >= end {
+        let mut agenda = Agenda::new(alloc, &first_place(sheet))?;
+        while let Some(place) = agenda.next() {
+            if place.at >= place.end {
                 continue;
             }
-            let turn = self.turn(sheet, &place)?;
-            let next = turn.next;
-            let does = turn.does;
-            match does {
-                Does::Nothing => {
-                    let later = Place {
-                        home,
-                        at: next,
-                        end,
-                        font,
-                    };
-                    put(&mut stack, &later)?;
-                }
-                Does::Selects(key) => {
-                    let id = self.know(&key)?;
-                    let selected = Some(id.number());
-                    let later = Place {
-                        home,
-                        at: next,
-                        end,
-                        font: selected,
-                    };
-                    put(&mut stack, &later)?;
-                }
-                Does::Sets(z) => {
-                    let Some(number) = font else {
-                        return Err(LoadFault::NoFont(self.spot(sheet, &place)));
-                    };
-                    let id = self.numbered(number);
-                    self.load(shelf, id)?;
-                    let code = self.shown(id, z)?;
-                    let later = Place {
-                        home,
-                        at: next,
-                        end,
-                        font,
-                    };
-                    put(&mut stack, &later)?;
-                    let mark = number as usize * 256 + code as usize;
-                    if !visited[mark] {
-                        visited[mark] = true;
-                        let begin = self.begin(id, code)?;
-                        let first = begin.first;
-                        let long = begin.end;
-                        let start = self.know_first(first)?;
-                        let inner = Home::Packet { font: number, code };
-                        let place = Place {
-                            home: inner,
-                            at: 0,
-                            end: long,
-                            font: start,
-                        };
-                        put(&mut stack, &place)?;
-                    }
-                }
-            }
+            self.step(shelf, sheet, &place, &mut agenda)?;
         }
         Ok(())
+    }
+
+    /// Makes known each font that a page, or a packet that the page runs, selects, and loads each one in which a character is set.
+    /// The set then covers the page. No font is loaded in which no character is set, and keys become known in the order in which the
+    /// page and its packets select them.
+    pub fn load_page<S: Shelf>(
+        &mut self,
+        shelf: &mut S,
+        doc: &Doc<'_>,
+        page: usize,
+    ) -> Result<(), LoadFault>
+        requires read { IsRead doc.now }
+        requires short { length doc.now.bytes < 2 ^ 31 }
+        requires page { page < length doc.now.pages }
+        ensures extends { Extends self.old self.new }
+        ensures covers { OnOk result (Covers self.new (acts_of (page_of doc.now page))) }
+        ensures order { OnOk result (InOrder self.old self.new (page_of doc.now page)) }
+        ensures loads { OnOk result (LoadsSet self.old self.new (acts_of (page_of doc.now page))) }
+        ensures fault { IfErr result (LoadFaultIs self.new (page_of doc.now page)) }
+    {
+        let (first, bytes) = page_bytes(doc, page);
+        let sheet = Sheet { doc, first, bytes };
+        self.search(shelf, &sheet)
+    }
+}
+
+/// Looks for the bitmap of a character, where bitmaps are wanted.
+fn has_bitmap(pk: &Option<Pk>, id: FontId, code: u8) -> Result<(), LoadFault>
+    ensures ok { OnOk result (HasBitmap pk.now code) }
+    ensures fault { IfErr result (IsLookFault pk.now id code) }
+{
+    let Some(pk) = pk else {
+        return Ok(());
+    };
+    match pk.look(code) {
+        Look::Here(_) => Ok(()),
+        Look::None => Err(LoadFault::NoGlyph(id, code)),
+        Look::TooBig(bytes) => Err(LoadFault::GlyphTooBig(id, code, bytes)),
+    }
+}
+
+/// The place in the file of the first command of a page, and the bytes of its commands.
+fn page_bytes<'a>(doc: &Doc<'a>, page: usize) -> (u32, &'a [u8])
+    requires read { IsRead doc.now }
+    requires short { length doc.now.bytes < 2 ^ 31 }
+    requires page { page < length doc.now.pages }
+    ensures page { page_of doc.now page ≡ page_in doc.now.fonts result.0 result.1.now }
+    ensures is_page { IsPage (record { page = page_in doc.now.fonts result.0 result.1.now; bytes = result.1.now; first = result.0 }) }
+{
+    one_reading();
+    let found = &doc.pages()[page];
+    (found.first, doc.body(page))
+}
+
+/// Where the search of a page begins.
+fn first_place(sheet: &Sheet<'_>) -> Place
+    ensures { result ≡ record { home = home.Page; at = 0; end = length sheet.now.bytes; font = None } }
+{
+    let bytes = sheet.bytes;
+    let end = bytes.len();
+    Place {
+        home: Home::Page,
+        at: 0,
+        end,
+        font: None,
+    }
+}
+
+/// A place further on in the same frame.
+fn moved(place: &Place, at: usize, font: Option<u32>) -> Place
+    ensures { result ≡ record { home = place.now.home; at = at; end = place.now.end; font = font } }
+{
+    let home = place.home;
+    let end = place.end;
+    Place {
+        home,
+        at,
+        end,
+        font,
+    }
+}
+
+/// Whether a character was met: never where its code isn't from 0 to 255.
+fn was_met(agenda: &Agenda, font: FontId, z: i64) -> bool
+    ensures { MatchBool result (WasMet agenda.now.met font z) (WasMet agenda.now.met font z → ⊥) }
+{
+    match u8::try_from(z) {
+        Ok(code) => agenda.has_met(font, code),
+        Err(_) => false,
     }
 }

@@ -14,18 +14,21 @@ use std::test::Fail;
 const TFM_LENGTHS: [u8; 24] = [
     0, 14, 0, 2, 0, 65, 0, 65, 0, 2, 0, 1, 0, 1, 0, 1, 0, 0, 0, 0, 0, 0, 0, 0,
 ];
+
 const TFM_REST: [u8; 28] = [
     0, 0xa0, 0, 0, 1, 0, 0, 0, 0, 0, 0, 0, 0, 8, 0, 0, 0, 0, 0, 0, 0, 0, 0, 0, 0, 0, 0, 0,
 ];
 
 /// A PK file whose code 65 is 3 pixels wide and 5 high.
 const PK_HEAD: [u8; 7] = [0xf7, 89, 0, 0, 0xa0, 0, 0];
+
 const PK_REST: [u8; 22] = [
     0, 0, 0, 0, 0, 0, 0, 0, 0xe0, 10, 65, 8, 0, 0, 0x15, 3, 5, 0, 4, 0xab, 0x8c, 245,
 ];
 
 /// A VF file with one local font, of 943718 / 2^20 of its size and 10 points, with a name of four bytes, and one packet, of code 65, which sets code 65 in it.
 const VF_LOCAL: [u8; 10] = [0, 0x0e, 0x66, 0x66, 0, 0xa0, 0, 0, 0, 4];
+
 const VF_REST: [u8; 7] = [1, 65, 0, 0, 0, 65, 248];
 
 fn tfm(alloc: Global, checksum: u8) -> Result<Vec<u8>, AllocError> {
@@ -94,7 +97,13 @@ fn told(fault: &FontFault) -> (&str, &str) {
 }
 
 /// Puts a file on the shelf that fits the ending of its name.
-fn put(alloc: Global, shelf: &mut MemShelf, name: &str, checksum: u8, local: &[u8; 4]) -> Result<(), AllocError> {
+fn put(
+    alloc: Global,
+    shelf: &mut MemShelf,
+    name: &str,
+    checksum: u8,
+    local: &[u8; 4],
+) -> Result<(), AllocError> {
     let bytes = if name.ends_with(".vf") {
         vf(alloc, checksum, local)?
     } else if name.ends_with(".tfm") {
@@ -106,7 +115,13 @@ fn put(alloc: Global, shelf: &mut MemShelf, name: &str, checksum: u8, local: &[u
 }
 
 /// Loads the font `base` at 10 points: its kind, the width of code 65, whether its checksums differ; or its fault.
-fn load(alloc: Global, shelf: &mut MemShelf, dpi: i64, want: Want, checksum: u32) -> Result<String, Fail>
+fn load(
+    alloc: Global,
+    shelf: &mut MemShelf,
+    dpi: i64,
+    want: Want,
+    checksum: u32,
+) -> Result<String, Fail>
     requires { dpi ≤ℤ pos 10000 }
 {
     let mut fonts = fonts(alloc, dpi, want).ok_or("units")?;
@@ -116,7 +131,12 @@ fn load(alloc: Global, shelf: &mut MemShelf, dpi: i64, want: Want, checksum: u32
         Err(_) => return Ok(format!(in alloc; "not known")?),
     };
     match fonts.load(shelf, id) {
-        Ok(()) => Ok(format!(in alloc; "{:?} {:?} {}", fonts.kind(id), fonts.width(id, 65), fonts.mismatch(id))?),
+        Ok(()) => Ok(format!(in alloc;
+            "{:?} {:?} {}",
+            fonts.kind(id),
+            fonts.width(id, 65),
+            fonts.mismatch(id)
+        )?),
         Err(fault) => {
             let (kind, name) = told(&fault);
             Ok(format!(in alloc; "{kind} {name}")?)
@@ -145,7 +165,11 @@ const LOADS: &str = "300 rasters base.tfm,base.301pk 0 Real Some(327680) false
 fn loads(rt: HostRuntime) -> Result<(), Fail> {
     for line in LOADS.lines() {
         let mut fields = line.splitn(5, ' ');
-        let dpi = if fields.next().ok_or("a resolution")? == "1" { 1 } else { 300 };
+        let dpi = if fields.next().ok_or("a resolution")? == "1" {
+            1
+        } else {
+            300
+        };
         let want = match fields.next().ok_or("what is wanted")? {
             "widths" => Want::Widths,
             "packets" => Want::Packets,
@@ -158,7 +182,11 @@ fn loads(rt: HostRuntime) -> Result<(), Fail> {
         let call: u32 = fields.next().ok_or("a call")?.parse()?;
         shelf.fail_at(call)?;
         let answer = load(rt.alloc(), &mut shelf, dpi, want, 0)?;
-        assert_eq!(rt; answer.as_str(), fields.next().ok_or("an answer")?, "{line}");
+        assert_eq!(rt;
+            answer.as_str(),
+            fields.next().ok_or("an answer")?,
+            "{line}"
+        );
     }
     Ok(())
 }
@@ -182,7 +210,10 @@ fn mismatches(rt: HostRuntime) -> Result<(), Fail> {
             put(rt.alloc(), &mut shelf, name, other, b"next")?;
             let answer = load(rt.alloc(), &mut shelf, 300, Want::Rasters, key)?;
             let end = if differ { "true" } else { "false" };
-            assert!(rt; answer.as_str().ends_with(end), "{key} {tfm} {other} {name}");
+            assert!(rt;
+                answer.as_str().ends_with(end),
+                "{key} {tfm} {other} {name}"
+            );
         }
     }
     Ok(())

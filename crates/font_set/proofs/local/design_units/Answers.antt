@@ -12,9 +12,9 @@ overflow_mul-above-3 c =
     let den : c.from.result ≡ c.args.units.now.den = search rules in
     let design : c.from-2.result ≡ c.args.design = search rules in
     product_fits c.from-num.result c.from.result c.from-2.result
-      (subst (λ (z : ℤ). unsigned_abs z < 2 ^ 31) (sym num) (below c.args.units.now.num (2 ^ 31) c.requires.usable.num c.requires.num))
-      (subst (λ (z : ℤ). unsigned_abs z < 2 ^ 31) (sym den) (below c.args.units.now.den (2 ^ 31) c.requires.usable.den c.requires.den))
-      (subst (λ (z : ℤ). unsigned_abs z ≤ 2 ^ 31) (sym design) (int32 c.args.design c.ranges.design))
+    (subst (λ (z : ℤ). unsigned_abs z < 2 ^ 31) (sym num) (below c.args.units.now.num (2 ^ 31) c.requires.usable.num c.requires.num))
+    (subst (λ (z : ℤ). unsigned_abs z < 2 ^ 31) (sym den) (below c.args.units.now.den (2 ^ 31) c.requires.usable.den c.requires.den))
+    (subst (λ (z : ℤ). unsigned_abs z ≤ 2 ^ 31) (sym design) (int32 c.args.design c.ranges.design))
 
 pub overflow_add-above : goal.overflow_add-above
 overflow_add-above c =
@@ -22,17 +22,17 @@ overflow_add-above c =
     let den : c.from.result ≡ c.args.units.now.den = search rules in
     let design : c.from-2.result ≡ c.args.design = search rules in
     total_fits c.from-num.result c.from.result c.from-2.result
-      (subst (λ (z : ℤ). unsigned_abs z < 2 ^ 31) (sym num) (below c.args.units.now.num (2 ^ 31) c.requires.usable.num c.requires.num))
-      (subst (λ (z : ℤ). unsigned_abs z < 2 ^ 31) (sym den) (below c.args.units.now.den (2 ^ 31) c.requires.usable.den c.requires.den))
-      (subst (λ (z : ℤ). unsigned_abs z ≤ 2 ^ 31) (sym design) (int32 c.args.design c.ranges.design))
+    (subst (λ (z : ℤ). unsigned_abs z < 2 ^ 31) (sym num) (below c.args.units.now.num (2 ^ 31) c.requires.usable.num c.requires.num))
+    (subst (λ (z : ℤ). unsigned_abs z < 2 ^ 31) (sym den) (below c.args.units.now.den (2 ^ 31) c.requires.usable.den c.requires.den))
+    (subst (λ (z : ℤ). unsigned_abs z ≤ 2 ^ 31) (sym design) (int32 c.args.design c.ranges.design))
 
 pub div_euclid-requires-clause-no_overflow : goal.div_euclid-requires-clause-no_overflow
 div_euclid-requires-clause-no_overflow c =
     let num : c.from-num.result ≡ c.args.units.now.num = search rules in
     λ e. absurd
-      (no_overflow c.from-num.result
-        (subst (λ (z : ℤ). unsigned_abs z < 2 ^ 31) (sym num) (below c.args.units.now.num (2 ^ 31) c.requires.usable.num c.requires.num))
-        (subst (λ (z : ℤ). pos 0 <ℤ z) (sym num) c.requires.usable.num) e)
+    (no_overflow c.from-num.result
+    (subst (λ (z : ℤ). unsigned_abs z < 2 ^ 31) (sym num) (below c.args.units.now.num (2 ^ 31) c.requires.usable.num c.requires.num))
+    (subst (λ (z : ℤ). pos 0 <ℤ z) (sym num) c.requires.usable.num) e)
 
 pub overflow_cast-result : goal.overflow_cast-result
 overflow_cast-result c =

@@ -11,8 +11,8 @@ returns-in_err-found-clause-fault g c =
     let r = c.resolution-resolution.result in
     let p = err_from_is_err_and c.from_residual.result c.from_residual.ensures.1 in
     rw (p.1, p.2)
-      (candidate_not_read c.args.self.now key r (g.S.Shelf.told c.args.shelf.now) (g.S.Shelf.told c.candidate.new.shelf) c.in_err-found.field-0.0 c.requires.wanted
-       (first_candidate c.args.self.now key r c.resolution-resolution.ensures.value) c.in_err-found.ensures.fault)
+    (candidate_not_read c.args.self.now key r (g.S.Shelf.told c.args.shelf.now) (g.S.Shelf.told c.candidate.new.shelf) c.in_err-found.field-0.0 c.requires.wanted
+    (first_candidate c.args.self.now key r c.resolution-resolution.ensures.value) c.in_err-found.ensures.fault)
 
 pub returns-in_err-found-2-clause-fault : goal.returns-in_err-found-2-clause-fault
 returns-in_err-found-2-clause-fault g c =
@@ -25,8 +25,8 @@ returns-in_err-found-2-clause-fault g c =
     let below = c.saturating_sub-below.ensures ∙ ap (λ (n : ℕ). n - 1) c.resolution-resolution.ensures.value in
     let p = err_from_is_err_and c.from_residual-in_err-found-2.result c.from_residual-in_err-found-2.ensures.1 in
     rw (p.1, p.2)
-      (loaded_before c.args.self.now key a b d c.candidate.ensures.keeps e
-       (candidate_not_read c.args.self.now key s b d e c.requires.wanted (second_candidate c.args.self.now key s below) c.in_err-found-2.ensures.fault))
+    (loaded_before c.args.self.now key a b d c.candidate.ensures.keeps e
+    (candidate_not_read c.args.self.now key s b d e c.requires.wanted (second_candidate c.args.self.now key s below) c.in_err-found-2.ensures.fault))
 
 pub returns-in-Some-2-clause-found : goal.returns-in-Some-2-clause-found
 returns-in-Some-2-clause-found g c =
@@ -38,8 +38,8 @@ returns-in-Some-2-clause-found g c =
     let d = g.S.Shelf.told c.candidate-2.new.shelf in
     let below = c.saturating_sub-below.ensures ∙ ap (λ (n : ℕ). n - 1) c.resolution-resolution.ensures.value in
     second_found c.args.self.now key a b r c.resolution-resolution.ensures.value c.candidate.ensures.keeps
-      (subst (CandidateGives key r a b) c.in_default.is c.in_ok-found.ensures.read) d s c.in-Some-2.found below
-      (subst (CandidateGives key s b d) c.in-Some-2.is c.in_ok-found-2.ensures.read)
+    (subst (CandidateGives key r a b) c.in_default.is c.in_ok-found.ensures.read) d s c.in-Some-2.found below
+    (subst (CandidateGives key s b d) c.in-Some-2.is c.in_ok-found-2.ensures.read)
 
 pub returns-in_err-found-3-clause-fault : goal.returns-in_err-found-3-clause-fault
 returns-in_err-found-3-clause-fault g c =
@@ -53,9 +53,9 @@ returns-in_err-found-3-clause-fault g c =
     let above = ap (λ (n : ℕ). n + 1) c.resolution-resolution.ensures.value in
     let p = err_from_is_err_and c.from_residual-in_err-found-3.result c.from_residual-in_err-found-3.ensures.1 in
     rw (p.1, p.2)
-      (loaded_before c.args.self.now key a b f c.candidate.ensures.keeps e
-       (loaded_before c.args.self.now key b d f c.candidate-2.ensures.keeps e
-        (candidate_not_read c.args.self.now key t d f e c.requires.wanted (third_candidate c.args.self.now key t above) c.in_err-found-3.ensures.fault)))
+    (loaded_before c.args.self.now key a b f c.candidate.ensures.keeps e
+    (loaded_before c.args.self.now key b d f c.candidate-2.ensures.keeps e
+    (candidate_not_read c.args.self.now key t d f e c.requires.wanted (third_candidate c.args.self.now key t above) c.in_err-found-3.ensures.fault)))
 
 pub returns-in-Some-3-clause-found : goal.returns-in-Some-3-clause-found
 returns-in-Some-3-clause-found g c =
@@ -70,6 +70,6 @@ returns-in-Some-3-clause-found g c =
     let below = c.saturating_sub-below.ensures ∙ ap (λ (n : ℕ). n - 1) c.resolution-resolution.ensures.value in
     let above = ap (λ (n : ℕ). n + 1) c.resolution-resolution.ensures.value in
     third_found c.args.self.now key a b r c.resolution-resolution.ensures.value c.candidate.ensures.keeps
-      (subst (CandidateGives key r a b) c.in_default.is c.in_ok-found.ensures.read) d f s t c.in-Some-3.found below above c.candidate-2.ensures.keeps
-      (subst (CandidateGives key s b d) c.in_default-2.is c.in_ok-found-2.ensures.read)
-      (subst (CandidateGives key t d f) c.in-Some-3.is c.in_ok-found-3.ensures.read)
+    (subst (CandidateGives key r a b) c.in_default.is c.in_ok-found.ensures.read) d f s t c.in-Some-3.found below above c.candidate-2.ensures.keeps
+    (subst (CandidateGives key s b d) c.in_default-2.is c.in_ok-found-2.ensures.read)
+    (subst (CandidateGives key t d f) c.in-Some-3.is c.in_ok-found-3.ensures.read)

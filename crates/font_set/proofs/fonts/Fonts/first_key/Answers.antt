@@ -19,8 +19,8 @@ returns-in_err-key_of_local-in-Some-first_local-clause-bad c =
     let number : to_z w64 (of_z w64 c.in-Some-first_local.k) ≡ c.in-Some-first_local.k = to_z-of_z w64 c.in-Some-first_local.k fits in
     let p = err_from_is_err_and c.from_residual.result c.from_residual.ensures.1 in
     rw (p.1, p.2)
-      (bad_first c.args.self.now c.args.id c.in-Some.vf.now c.in-Some-first_local.k c.in_err-key_of_local-in-Some-first_local.field-0.0 has fit (sym c.in-Some-first_local.ensures)
-       (subst (λ (z : ℤ). BadNumber c.args.self.now c.args.id z c.in_err-key_of_local-in-Some-first_local.field-0.0) number c.in_err-key_of_local-in-Some-first_local.ensures.bad))
+    (bad_first c.args.self.now c.args.id c.in-Some.vf.now c.in-Some-first_local.k c.in_err-key_of_local-in-Some-first_local.field-0.0 has fit (sym c.in-Some-first_local.ensures)
+    (subst (λ (z : ℤ). BadNumber c.args.self.now c.args.id z c.in_err-key_of_local-in-Some-first_local.field-0.0) number c.in_err-key_of_local-in-Some-first_local.ensures.bad))
 
 pub returns-in_ok-key_of_local-in-Some-first_local-clause-key : goal.returns-in_ok-key_of_local-in-Some-first_local-clause-key
 returns-in_ok-key_of_local-in-Some-first_local-clause-key c =
@@ -28,7 +28,7 @@ returns-in_ok-key_of_local-in-Some-first_local-clause-key c =
     let fits : FitsSigned w64 c.in-Some-first_local.k = search rules in
     let number : to_z w64 (of_z w64 c.in-Some-first_local.k) ≡ c.in-Some-first_local.k = to_z-of_z w64 c.in-Some-first_local.k fits in
     first_is c.args.self.now c.args.id c.in-Some.vf.now c.in-Some-first_local.k c.in_ok-key_of_local-in-Some-first_local.field-0 has (sym c.in-Some-first_local.ensures)
-      (subst (λ (z : ℤ). KeyAnswer (locals_at c.args.self.now c.args.id) z c.in_ok-key_of_local-in-Some-first_local.field-0) number c.in_ok-key_of_local-in-Some-first_local.ensures.key)
+    (subst (λ (z : ℤ). KeyAnswer (locals_at c.args.self.now c.args.id) z c.in_ok-key_of_local-in-Some-first_local.field-0) number c.in_ok-key_of_local-in-Some-first_local.ensures.key)
 
 pub returns-in-None-clause-key : goal.returns-in-None-clause-key
 returns-in-None-clause-key c =

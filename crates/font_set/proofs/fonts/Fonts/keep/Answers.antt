@@ -17,11 +17,14 @@ invariant_of-self c =
     let is = sym c.number.ensures.value in
     let less : n < length es = subst (λ (i : ℕ). i < length es) is (subst (λ (t : FontSet). c.args.id < length t.fonts) back c.requires.given) in
     let known : state_in (slice_get es n) ≡ State.Known =
-      subst (λ (i : ℕ). state_in (slice_get es i) ≡ State.Known) is (subst (λ (t : FontSet). state_in (slice_get t.fonts c.args.id) ≡ State.Known) back c.requires.known) in
+    subst (λ (i : ℕ). state_in (slice_get es i) ≡ State.Known) is (subst (λ (t : FontSet). state_in (slice_get t.fonts c.args.id) ≡ State.Known) back c.requires.known) in
     let room : raster_bytes es + raster_bytes_in s ≤ 2 ^ 30 = subst (λ (t : FontSet). raster_bytes t.fonts + raster_bytes_in s ≤ 2 ^ 30) back c.requires.room in
-    let same = sym (entries_set ps n c.args.font) in
-    (inv.0, inv.1, subst AreStored same (stored_set es n s less known c.requires.sound room inv.2),
-      ap (λ (b : ℕ). b + c.raster_bytes.result) inv.3 ∙ ap (λ (b : ℕ). raster_bytes es + b) c.raster_bytes.ensures ∙ sym (set_bytes es n s less known) ∙ ap raster_bytes same)
+    let same = sym (entries_set ps n c.args.font) in (
+      inv.0,
+      inv.1,
+      subst AreStored same (stored_set es n s less known c.requires.sound room inv.2),
+      ap (λ (b : ℕ). b + c.raster_bytes.result) inv.3 ∙ ap (λ (b : ℕ). raster_bytes es + b) c.raster_bytes.ensures ∙ sym (set_bytes es n s less known) ∙ ap raster_bytes same,
+    )
 
 pub returns : goal.returns
 returns c =

@@ -29,11 +29,13 @@ returns-in_ok-local_key-in-Some-local-clause-key c =
     let fit = fit_in (state_of c.font.result.now) c.in-Some.vf.now c.font.ensures.sound c.in-Some.ensures in
     let has = ap (λ (s : State). vf_in s) (sym c.font.ensures.value) ∙ c.in-Some.ensures in
     let number : to_z w64 (of_z w64 c.args.k) ≡ c.args.k = to_z-of_z w64 c.args.k c.ranges.k in
-    let made = c.in_ok-local_key-in-Some-local.ensures.key in
-    (key_number set c.args.id c.in-Some.vf.now local c.args.k has fit c.in-Some-local.ensures.0 (c.in-Some-local.ensures.1 ∙ number)
-     ∙ ap (λ (n : ℕ). local_key set.units.num set.units.den n local) (sym c.size.ensures.value)
-     ∙ ap (λ (s : FontSet). local_key s.units.num s.units.den c.size.result local) (sym c.self.view_is)
-     ∙ made.0, made.1)
+    let made = c.in_ok-local_key-in-Some-local.ensures.key in (
+      key_number set c.args.id c.in-Some.vf.now local c.args.k has fit c.in-Some-local.ensures.0 (c.in-Some-local.ensures.1 ∙ number)
+          ∙ ap (λ (n : ℕ). local_key set.units.num set.units.den n local) (sym c.size.ensures.value)
+          ∙ ap (λ (s : FontSet). local_key s.units.num s.units.den c.size.result local) (sym c.self.view_is)
+          ∙ made.0,
+      made.1,
+    )
 
 pub returns-in-None-clause-key : goal.returns-in-None-clause-key
 returns-in-None-clause-key c =
@@ -53,7 +55,7 @@ returns-in_err-local_key-in-Some-local-clause-bad c =
     let sized = subst (λ (n : ℕ). IsBadSize c.self.inside.units n local parts) c.size.ensures.value bad in
     let here = subst (λ (s : FontSet). IsBadSize s.units (size_at set c.args.id) local parts) c.self.view_is sized in
     let none =
-      key_number set c.args.id c.in-Some.vf.now local c.args.k has fit c.in-Some-local.ensures.0 (c.in-Some-local.ensures.1 ∙ number) ∙ here.none in
+    key_number set c.args.id c.in-Some.vf.now local c.args.k has fit c.in-Some-local.ensures.0 (c.in-Some-local.ensures.1 ∙ number) ∙ here.none in
     let among = subst (λ (ls : List LocalFont). Contains ls local) (sym (fonts_are set c.args.id c.in-Some.vf.now has)) c.in-Some-local.ensures.0 in
     let p = err_from_is_err_and c.from_residual.result c.from_residual.ensures.1 in
     rw (p.1, p.2) (local, c.in-Some-local.ensures.1 ∙ number, none, record { among = among; bad = here })

@@ -18,21 +18,22 @@ returns-in-Some-clause-id c =
 pub returns-in-Some-clause-learns : goal.returns-in-Some-clause-learns
 returns-in-Some-clause-learns c =
     let e =
-        ap (λ (s : FontSet). place_of s.fonts (key_of c.args.key.now)) (sym c.self.view_is)
-        ∙ place_is c.args.key.now c.self.inside.table.entries ∙ sym c.in-Some.ensures.index in
+    ap (λ (s : FontSet). place_of s.fonts (key_of c.args.key.now)) (sym c.self.view_is)
+    ∙ place_is c.args.key.now c.self.inside.table.entries ∙ sym c.in-Some.ensures.index in
     ap (λ (es : List Entry). (let s : FontSet = record { units = c.args.self.now.units; want = c.args.self.now.want; fonts = es } in s)) (learn_old c.args.self.now.fonts (key_of c.args.key.now) c.in-Some.place e)
 
 pub returns-in-Some-clause-learnt : goal.returns-in-Some-clause-learnt
 returns-in-Some-clause-learnt c =
     learnt_old c.args.self.now (key_of c.args.key.now) c.in-Some.place
     (ap (λ (s : FontSet). place_of s.fonts (key_of c.args.key.now)) (sym c.self.view_is)
-     ∙ place_is c.args.key.now c.self.inside.table.entries ∙ sym c.in-Some.ensures.index)
+    ∙ place_is c.args.key.now c.self.inside.table.entries ∙ sym c.in-Some.ensures.index)
 
 pub returns-then-place-clause-fault : goal.returns-then-place-clause-fault
-returns-then-place-clause-fault c =
-    (ap (λ (s : FontSet). length s.fonts) (sym c.self.view_is) ∙ length-map c.self.inside.table.entries entry_of ∙ sym c.len-place.ensures.len ∙ c.if-place.true,
-     ap (λ (s : FontSet). place_of s.fonts (key_of c.args.key.now)) (sym c.self.view_is) ∙ place_is c.args.key.now c.self.inside.table.entries
-     ∙ sym c.get_index_of.ensures.index ∙ c.in_default.is)
+returns-then-place-clause-fault c = (
+  ap (λ (s : FontSet). length s.fonts) (sym c.self.view_is) ∙ length-map c.self.inside.table.entries entry_of ∙ sym c.len-place.ensures.len ∙ c.if-place.true,
+  ap (λ (s : FontSet). place_of s.fonts (key_of c.args.key.now)) (sym c.self.view_is) ∙ place_is c.args.key.now c.self.inside.table.entries
+      ∙ sym c.get_index_of.ensures.index ∙ c.in_default.is,
+)
 
 pub invariant_of-self : goal.invariant_of-self
 invariant_of-self c =
@@ -43,9 +44,12 @@ invariant_of-self c =
     let absent : place_of (entries_of old.entries) (key_of c.args.key.now) ≡ None = place_is c.args.key.now old.entries ∙ sym none in
     let long : length (entries_of old.entries) ≡ length old.entries = length-map old.entries entry_of in
     let inv = c.self.invariant in
-    let less : length (entries_of old.entries) < 1000 = not_full (length (entries_of old.entries)) inv.2.few (λ e. c.if-place.false (c.len-place.ensures.len ∙ sym long ∙ e)) in
-    (inv.0, inv.1, subst AreStored (sym last.0) (stored_learn (entries_of old.entries) (key_of c.args.key.now) absent c.requires.key less inv.2),
-      inv.3 ∙ sym (bytes_push (entries_of old.entries) (key_of c.args.key.now) absent) ∙ ap raster_bytes (sym last.0))
+    let less : length (entries_of old.entries) < 1000 = not_full (length (entries_of old.entries)) inv.2.few (λ e. c.if-place.false (c.len-place.ensures.len ∙ sym long ∙ e)) in (
+      inv.0,
+      inv.1,
+      subst AreStored (sym last.0) (stored_learn (entries_of old.entries) (key_of c.args.key.now) absent c.requires.key less inv.2),
+      inv.3 ∙ sym (bytes_push (entries_of old.entries) (key_of c.args.key.now) absent) ∙ ap raster_bytes (sym last.0),
+    )
 
 pub returns-in-Ok-clause-id : goal.returns-in-Ok-clause-id
 returns-in-Ok-clause-id c =

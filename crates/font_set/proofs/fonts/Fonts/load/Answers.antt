@@ -23,14 +23,14 @@ returns-clause-ok g c =
     let known : state_at set c.args.id ≡ State.Known = search rules in
     let tells = subst (λ (k : Key). WhereHeld held (λ h. FontOf h set.units set.want k (state_of c.in_ok-font.font))) c.key.ensures.value read.tells in
     subst (λ (s : FontSet). Loads held set.units set.want set.fonts s.fonts c.args.id) (sym c.keep.ensures)
-      (loads_new held set.units set.want set.fonts c.args.id (state_of c.in_ok-font.font) c.requires.given known read.loaded tells)
+    (loads_new held set.units set.want set.fonts c.args.id (state_of c.in_ok-font.font) c.requires.given known read.loaded tells)
 
 pub returns-clause-loaded : goal.returns-clause-loaded
 returns-clause-loaded g c =
     let set = c.args.self.now in
     let known : state_at set c.args.id ≡ State.Known = search rules in
     subst (λ (s : FontSet). Loaded set s c.args.id) (sym c.keep.ensures)
-      (loaded_new set c.args.id (state_of c.in_ok-font.font) c.requires.given known c.in_ok-font.ensures.font.loaded)
+    (loaded_new set c.args.id (state_of c.in_ok-font.font) c.requires.given known c.in_ok-font.ensures.font.loaded)
 
 pub returns-clause-count : goal.returns-clause-count
 returns-clause-count g c =

@@ -18,5 +18,5 @@ returns-clause-value c =
     let width : to_z w64 (of_z w64 c.in_ok-width.width) ≡ c.in_ok-width.width = to_z-of_z w64 c.in_ok-width.width (fits_signed_from_abs w64 c.in_ok-width.width (omega (arith, c.in_ok-width.ensures.bound))) in
     ap (λ (z : ℤ). Some z)
     (to_z-of_z w64 c.round.result fits ∙ c.round.ensures.value ∙ ap (λ (z : ℤ). rounded c.self.inside.conv z) width ∙ ap (λ (f : Fraction). rounded f c.in_ok-width.width) c.self.invariant.1
-     ∙ ap (λ (s : FontSet). rounded (pixels_of_one s.units) c.in_ok-width.width) c.self.view_is)
+    ∙ ap (λ (s : FontSet). rounded (pixels_of_one s.units) c.in_ok-width.width) c.self.view_is)
     ∙ ap (rounded_by c.args.self.now.units) c.in_ok-width.ensures.value

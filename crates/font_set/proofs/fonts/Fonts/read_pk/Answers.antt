@@ -11,22 +11,22 @@ returns g c =
     let ours : c.in-Err.fault ≢ OutOfMemory = search rules in
     let bad : c.in-Err.fault ≢ Space = search rules in
     let room : 1073741824 - c.self.inside.kept_bytes ≡ raster_room c.args.self.now =
-      ap (λ (n : ℕ). 1073741824 - n) c.self.invariant.3 ∙ ap (λ (s : FontSet). 1073741824 - raster_bytes s.fonts) c.self.view_is in
+    ap (λ (n : ℕ). 1073741824 - n) c.self.invariant.3 ∙ ap (λ (s : FontSet). 1073741824 - raster_bytes s.fonts) c.self.view_is in
     let says = subst (λ (bytes : List ℕ). PkFaultIs bytes (1073741824 - c.self.inside.kept_bytes) c.in-Err.fault) c.deref.ensures.value c.in-Err.ensures.fault in
     let none = subst (λ (bytes : List ℕ). NoFont bytes (1073741824 - c.self.inside.kept_bytes)) c.deref.ensures.value (c.in-Err.ensures.none ours) in
     record {
       pk = tt;
       room = tt;
       fault =
-        record {
-          names = found.candidate;
-          bytes = c.in_ok-name.bytes.items;
-          held = found.held;
-          first = record { wanted = c.requires.wanted; held = found.first };
-          fault = subst (λ (n : ℕ). PkFaultIs c.in_ok-name.bytes.items n c.in-Err.fault) room says;
-          ours = ours;
-          bad = bad;
-          none = subst (λ (n : ℕ). NoFont c.in_ok-name.bytes.items n) room none;
-        };
+          record {
+            names = found.candidate;
+            bytes = c.in_ok-name.bytes.items;
+            held = found.held;
+            first = record { wanted = c.requires.wanted; held = found.first };
+            fault = subst (λ (n : ℕ). PkFaultIs c.in_ok-name.bytes.items n c.in-Err.fault) room says;
+            ours = ours;
+            bad = bad;
+            none = subst (λ (n : ℕ). NoFont c.in_ok-name.bytes.items n) room none;
+          };
       keeps = c.find_pk.ensures.keeps;
     }

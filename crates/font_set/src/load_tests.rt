@@ -1,0 +1,196 @@
+//! Pages whose fonts are loaded, from files that were put together here.
+
+use crate::{FontFault, Fonts, LoadFault, Want};
+use dv_base::{Conv, MemShelf, Units};
+use dvi_doc::Doc;
+use std::alloc::{AllocError, Global};
+use std::test::Fail;
+
+/// A preamble and a bop; the numbers of the preamble stand in post too.
+const FRONT: [u8; 15] = [247, 2, 1, 131, 146, 192, 28, 59, 0, 0, 0, 0, 3, 232, 0];
+
+const POST: [u8; 29] = [
+    248, 0, 0, 0, 15, 1, 131, 146, 192, 28, 59, 0, 0, 0, 0, 3, 232, 0, 0, 0, 0, 0, 0, 0, 0, 0, 0,
+    0, 1,
+];
+
+/// The checksum 0, and a size and a design size of 10 points.
+const DEFINED: [u8; 13] = [0, 0, 0, 0, 0, 10, 0, 0, 0, 10, 0, 0, 0];
+
+/// A TFM file with the codes 65 and 66.
+const TFM: [u8; 60] = [
+    0, 15, 0, 2, 0, 65, 0, 66, 0, 2, 0, 1, 0, 1, 0, 1, 0, 0, 0, 0, 0, 0, 0, 0, 0, 0, 0, 0, 0, 160,
+    0, 0, 1, 0, 0, 0, 1, 0, 0, 0, 0, 0, 0, 0, 0, 8, 0, 0, 0, 0, 0, 0, 0, 0, 0, 0, 0, 0, 0, 0,
+];
+
+/// A PK file whose code 65 is 3 pixels wide and 5 high, and whose code 66 is 524,296 wide and 1 high.
+const PK: [u8; 70] = [
+    247, 89, 0, 0, 160, 0, 0, 0, 0, 0, 0, 0, 0, 0, 0, 0, 0, 0, 0, 224, 10, 65, 8, 0, 0, 21, 3, 5,
+    0, 4, 171, 140, 7, 0, 0, 0, 28, 0, 0, 0, 66, 0, 0, 0, 0, 0, 0, 0, 0, 0, 0, 0, 0, 0, 8, 0, 8, 0,
+    0, 0, 1, 0, 0, 0, 0, 0, 0, 0, 0, 245,
+];
+
+/// A document of one page with these commands, and one font of 10 points, of number 0 and this name.
+fn document(alloc: Global, name: &str, body: &[u8]) -> Result<Vec<u8>, AllocError> {
+    let mut bytes = Vec::from_slice(alloc, &FRONT)?;
+    bytes.push(139)?;
+    bytes.extend_from_slice(&[0; 40])?;
+    bytes.extend_from_slice(&[255; 4])?;
+    bytes.extend_from_slice(body)?;
+    bytes.push(140)?;
+    let post = u32::try_from(bytes.len()).unwrap_or(0);
+    bytes.extend_from_slice(&POST)?;
+    bytes.extend_from_slice(&[243, 0])?;
+    bytes.extend_from_slice(&DEFINED)?;
+    bytes.push(u8::try_from(name.len()).unwrap_or(0))?;
+    bytes.extend_from_slice(name.as_bytes())?;
+    bytes.push(249)?;
+    bytes.extend_from_slice(&post.to_be_bytes())?;
+    bytes.extend_from_slice(&[2, 223, 223, 223, 223])?;
+    Ok(bytes)
+}
+
+/// A VF file whose code 65 sets the code 65 of its local font, which has this name and its own size.
+fn virtual_font(alloc: Global, local: &str) -> Result<Vec<u8>, AllocError> {
+    let mut bytes = Vec::from_slice(alloc, &[247, 202, 0, 0, 0, 0, 0, 0, 160, 0, 0])?;
+    bytes.extend_from_slice(&[243, 0, 0, 0, 0, 0, 0, 16, 0, 0, 0, 160, 0, 0, 0])?;
+    bytes.push(u8::try_from(local.len()).unwrap_or(0))?;
+    bytes.extend_from_slice(local.as_bytes())?;
+    bytes.extend_from_slice(&[1, 65, 0, 0, 0, 65, 248])?;
+    Ok(bytes)
+}
+
+/// What a fault says.
+fn word(fault: &LoadFault) -> &'static str {
+    match fault {
+        LoadFault::UndefinedFont(_) => "UndefinedFont",
+        LoadFault::NoFont(_) => "NoFont",
+        LoadFault::NoChar(..) => "NoChar",
+        LoadFault::NoPacket(..) => "NoPacket",
+        LoadFault::NoGlyph(..) => "NoGlyph",
+        LoadFault::GlyphTooBig(_, 66, 65_537) => "GlyphTooBig",
+        LoadFault::GlyphTooBig(..) => "another size",
+        LoadFault::Font(FontFault::TooManyFonts) => "TooManyFonts",
+        LoadFault::Font(FontFault::Missing(_)) => "Missing",
+        LoadFault::Font(_) => "another fault",
+    }
+}
+
+/// What loading the first page answers, and how many fonts are known then.
+fn loading(alloc: Global, shelf: &mut MemShelf, bytes: &[u8]) -> Option<(&'static str, u32)> {
+    if bytes.len() > 100_000 {
+        return None;
+    }
+    let Ok(doc) = Doc::read(alloc, bytes) else {
+        return None;
+    };
+    let units = Units {
+        num: 25_400_000,
+        den: 473_628_672,
+        mag: 1_000,
+        dpi: 300,
+    };
+    let conv = Conv::new(&units)?;
+    let mut fonts = Fonts::new(alloc, units, conv, Want::Rasters);
+    if doc.pages().is_empty() {
+        return None;
+    }
+    let word = match fonts.load_page(shelf, &doc, 0) {
+        Ok(()) => "loaded",
+        Err(fault) => word(&fault),
+    };
+    Some((word, fonts.count()))
+}
+
+/// Commands of a page in one real font, and what loading the page answers. The byte 171 selects the font.
+const PAGES: [(&str, &str); 6] = [
+    ("ab41", "loaded"),
+    ("ab", "loaded"),
+    ("41", "NoFont"),
+    ("ac41", "UndefinedFont"),
+    ("ab43", "NoChar"),
+    ("ab42", "GlyphTooBig"),
+];
+
+/// The value of a hexadecimal digit.
+fn digit(byte: u8) -> u8 {
+    match byte {
+        b'0'..=b'9' => byte - b'0',
+        b'a'..=b'f' => byte - b'a' + 10,
+        _ => 0,
+    }
+}
+
+/// The bytes that hexadecimal digits spell.
+fn spelled(alloc: Global, digits: &str) -> Result<Vec<u8>, AllocError> {
+    let mut bytes = Vec::new(alloc);
+    let mut value = 0u8;
+    for (place, byte) in digits.bytes().enumerate() {
+        value = value.wrapping_mul(16).wrapping_add(digit(byte));
+        if place % 2 == 1 {
+            bytes.push(value)?;
+        }
+    }
+    Ok(bytes)
+}
+
+#[test]
+fn pages_in_a_real_font(rt: HostRuntime) -> Result<(), Fail> {
+    let alloc = rt.alloc();
+    let mut shelf = MemShelf::new(alloc);
+    shelf.add("f.tfm", &TFM)?;
+    shelf.add("f.300pk", &PK)?;
+    for (digits, answer) in PAGES {
+        let body = spelled(alloc, digits)?;
+        let bytes = document(alloc, "f", &body)?;
+        let Some((word, known)) = loading(alloc, &mut shelf, &bytes) else {
+            panic!(rt; "no document");
+        };
+        assert!(rt; word == answer, "{digits}: {word}");
+        assert!(rt;
+            known
+                == if answer == "NoFont" || answer == "UndefinedFont" {
+                    0
+                } else {
+                    1
+                },
+            "{digits}: {known}"
+        );
+    }
+    Ok(())
+}
+
+/// A shelf with a chain of this many virtual fonts; the last one sets a character of itself.
+fn chain(alloc: Global, many: u32) -> Result<MemShelf, AllocError> {
+    let mut shelf = MemShelf::new(alloc);
+    for place in 0..many {
+        let next = if place + 1 < many { place + 1 } else { place };
+        let local = format!(in alloc; "v{next}")?;
+        let vf = virtual_font(alloc, &local)?;
+        let tfm_name = format!(in alloc; "v{place}.tfm")?;
+        let vf_name = format!(in alloc; "v{place}.vf")?;
+        shelf.add(&tfm_name, &TFM)?;
+        shelf.add(&vf_name, &vf)?;
+    }
+    Ok(shelf)
+}
+
+#[test]
+fn chains_of_virtual_fonts(rt: HostRuntime) -> Result<(), Fail> {
+    let alloc = rt.alloc();
+    for (many, answer, known) in [
+        (1u32, "loaded", 1u32),
+        (2, "loaded", 2),
+        (1_000, "loaded", 1_000),
+        (1_001, "TooManyFonts", 1_000),
+    ] {
+        let mut shelf = chain(alloc, many)?;
+        let bytes = document(alloc, "v0", &[171, 65])?;
+        let Some((word, count)) = loading(alloc, &mut shelf, &bytes) else {
+            panic!(rt; "no document");
+        };
+        assert!(rt; word == answer, "{many}: {word}");
+        assert!(rt; count == known, "{many}: {count}");
+    }
+    Ok(())
+}
