@@ -1,0 +1,15 @@
+pub mod Commands
+pub mod Meaning
+pub mod Grid
+pub mod Marks
+pub mod Turn
+pub mod Pages
+pub mod Takes
+pub mod Causes
+pub mod Homes
+pub mod Shown
+pub mod Shallow
+pub mod Page
+pub mod Laws
+pub mod Faultless
+pub mod Bare
