@@ -93,7 +93,7 @@ fn document(alloc: Global, body: &[u8]) -> Result<Vec<u8>, AllocError> {
     bytes.extend_from_slice(&[255, 255, 255, 255])?;
     bytes.extend_from_slice(body)?;
     bytes.push(140)?;
-    let post = bytes.len() as u32;
+    let post = (bytes.len() % 65_536) as u32;
     bytes.extend_from_slice(&[248, 0, 0, 0, 15])?;
     bytes.extend_from_slice(&UNITS)?;
     bytes.extend_from_slice(&[0, 0, 0, 1, 0, 0, 0, 1, 0, 0, 0, 1, 249])?;
@@ -105,25 +105,26 @@ fn document(alloc: Global, body: &[u8]) -> Result<Vec<u8>, AllocError> {
 /// The numbers num, den and mag of TeX's documents.
 const UNITS: [u8; 12] = [0x01, 0x83, 0x92, 0xc0, 0x1c, 0x3b, 0, 0, 0, 0, 0x03, 0xe8];
 
-fn units(dpi: i64) -> Units
-    requires { dpi ≤ℤ pos 10000 }
-{
-    Units {
-        num: 25_400_000,
-        den: 473_628_672,
-        mag: 1_000,
-        dpi,
-    }
-}
-
 /// A walker at a resolution across and one down.
 fn walker(alloc: Global, across: i64, down: i64, drift: i64) -> Result<Walker, Fail>
     requires across { across ≤ℤ pos 10000 }
     requires down { down ≤ℤ pos 10000 }
     requires drift { IsDrift drift }
 {
-    let across = Conv::new(&units(across)).ok_or("units")?;
-    let down = Conv::new(&units(down)).ok_or("units")?;
+    let across = Conv::new(&Units {
+        num: 25_400_000,
+        den: 473_628_672,
+        mag: 1_000,
+        dpi: across,
+    })
+    .ok_or("units")?;
+    let down = Conv::new(&Units {
+        num: 25_400_000,
+        den: 473_628_672,
+        mag: 1_000,
+        dpi: down,
+    })
+    .ok_or("units")?;
     Ok(Walker::new(alloc, across, down, drift)?)
 }
 
@@ -177,7 +178,12 @@ fn walked(alloc: Global, body: &[u8], walker: &mut Walker) -> Result<String, Fai
     let Ok(doc) = Doc::read(alloc, &bytes) else {
         return Ok(format!(in alloc; "no document")?);
     };
-    let units = units(300);
+    let units = Units {
+        num: 25_400_000,
+        den: 473_628_672,
+        mag: 1_000,
+        dpi: 300,
+    };
     let conv = Conv::new(&units).ok_or("units")?;
     let fonts = Fonts::new(alloc, units, conv, Want::Widths);
     if doc.pages().is_empty() {

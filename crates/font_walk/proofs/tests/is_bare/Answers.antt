@@ -15,7 +15,7 @@ loop-at-init c = record {
       let at : p.first ≡ p.first + 0 = omega arith in
       record {
         rest = p.commands;
-        lexed = subst (λ (k : ℕ). Lexes k c.body.result.now p.commands) at (page_lexed c.args.doc.now c.args.page c.body.result.now c.body.ensures.commands p is);
+        lexed = subst (λ (k : ℕ). Lexes k c.body-body.result.now p.commands) at (page_lexed c.args.doc.now c.args.page c.body-body.result.now c.body-body.ensures.commands p is);
         same = refl;
       };
 }
@@ -26,10 +26,10 @@ loop-at-preserved c =
     let ds = c.args.doc.now.fonts in
     record {
       inside = f.1;
-      left = λ p is. rest_next c.one_spelling.ensures (page_scope ds) (page_acts ds p.commands) c.body.result.now p.first c.loop-at.at c.in-Ok.end (view c.in-Ok.cmd) f.0 f.1 f.2 c.if-not-is_plain.ensures (c.loop-at.invariant.left p is);
+      left = λ p is. rest_next c.one_spelling.ensures (page_scope ds) (page_acts ds p.commands) c.body-body.result.now p.first c.loop-at.at c.in-Ok.end (view c.in-Ok.cmd) f.0 f.1 f.2 c.if-not-is_plain.ensures (c.loop-at.invariant.left p is);
     }
 
 pub returns : goal.returns
 returns c = λ p is.
     let ds = c.args.doc.now.fonts in
-    rest_end (page_scope ds) (page_acts ds p.commands) (drop c.loop-at.at c.body.result.now) (p.first + c.loop-at.at) (drop_of_length-le c.body.result.now c.loop-at-test.false) (c.loop-at.invariant.left p is)
+    rest_end (page_scope ds) (page_acts ds p.commands) (drop c.loop-at.at c.body-body.result.now) (p.first + c.loop-at.at) (drop_of_length-le c.body-body.result.now c.loop-at-test.false) (c.loop-at.invariant.left p is)

@@ -2,8 +2,8 @@ use Rattle.font_walk.specs.Page.{page_acts}
 use Rattle.font_walk.proofs.Bare.{covers_nothing}
 use Rattle.font_walk.proofs.tests.walked.Goals as goal
 
-pub page-requires-clause-covers : goal.page-requires-clause-covers
-page-requires-clause-covers c = λ p is. covers_nothing _ _ (c.if-not-is_bare.ensures p is)
+pub page-result-requires-clause-covers : goal.page-result-requires-clause-covers
+page-result-requires-clause-covers c = λ p is. covers_nothing _ _ (c.if-not-is_bare.ensures p is)
 
-pub page-requires-clause-can : goal.page-requires-clause-can
-page-requires-clause-can c = λ p is mark fits among. tt
+pub page-result-requires-clause-can : goal.page-result-requires-clause-can
+page-result-requires-clause-can c = λ p is mark fits among. tt
