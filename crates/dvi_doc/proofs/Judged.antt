@@ -7,7 +7,7 @@ use Rattle.std.proofs.Math.Seq.{drop-drop, take-append-add}
 use Rattle.dvi_ops.specs.Command.Command.{Bop, Eop, Pre, Post, PostPost}
 use Rattle.dvi_doc.proofs.Lexing.{lex_split}
 use Rattle.dvi_doc.specs.declared.page.Page.{Page}
-use Rattle.dvi_doc.specs.declared.font.FontDef.{FontDef}
+use Rattle.dvi_ops.specs.declared.cmd.Def.{Def}
 use Rattle.dvi_ops.specs.Command.{Definition, Preamble, Postamble}
 use Rattle.dvi_ops.specs.Laws.{OneSpelling}
 use Rattle.dvi_ops.specs.View.{def_view, head_view, tail_view}
@@ -15,7 +15,7 @@ use Rattle.dvi_ops.specs.Placed.{Placed, Lexes}
 use Rattle.dvi_doc.specs.Document.{placed, PageOf, Item, File, Document, between, pages_of, document_of}
 use Rattle.dvi_doc.specs.Document.Item.{Filler, Paged}
 use Rattle.dvi_doc.specs.Grammar.{Defines, AllInner, AllItems, first_place, IsFile, IsDoc, AreFonts, AllAmong, SameUnits, DefinesTwice, IsNamed, IsSized}
-use Rattle.dvi_doc.specs.View.{font_view, Outline, outline, page_view, IsRead}
+use Rattle.dvi_doc.specs.View.{Outline, outline, page_view, IsRead}
 use Rattle.dvi_doc.specs.Faults.{FaultIn, FontFault, SomeFont}
 use Rattle.dvi_doc.specs.PartFaults.{Differs, TailFault}
 use Rattle.dvi_doc.specs.Steps.{FoundParts}
@@ -171,7 +171,7 @@ page_there one bytes doc pages k x d e h g =
 pub body_bytes : (pages : List Page) (k : ℕ) (x : Page) → k < length pages → x ≡ get_or pages k x → slice_get (map page_view pages) k ≡ Some (page_view x)
 body_bytes pages k x h g = map_get pages k x h g
 
--- a font that is found is named as a font may be
-pub found_named : (o : Option (Bor FontDef)) (ds : List Definition) (k : ℤ) → MatchOption o (Defines ds k → ⊥) (λ font. Contains ds (font_view font.now) × (font.now.k ≡ k)) → All IsNamed ds → IfSome o (λ font. IsNamed (font_view font.now))
-found_named None ds k h all = tt
-found_named (Some font) ds k h all = subst IsNamed h.0.2 (all h.0.0 (font_view font.now) h.0.1)
+-- a font that is found is as all are
+pub found_good : (P : Definition → Type 0) (o : Option (Bor Def)) (ds : List Definition) (k : ℤ) → MatchOption o (Defines ds k → ⊥) (λ font. Contains ds (def_view font.now) × (font.now.k ≡ k)) → All P ds → IfSome o (λ font. P (def_view font.now))
+found_good P None ds k h all = tt
+found_good P (Some font) ds k h all = subst P h.0.2 (all h.0.0 (def_view font.now) h.0.1)

@@ -7,4 +7,5 @@ pub mod Refuted
 pub mod Further
 pub mod Gathered
 pub mod Defined
+pub mod Numbering
 pub mod Judged

@@ -3,7 +3,7 @@ use Rattle.std.specs.Prelude.{◌≡◌, ◌<◌, ◌≤◌, ◌-◌, ◌%◌, �
 use Rattle.std.specs.List.{Contains}
 use Rattle.dvi_ops.specs.Command.{Definition, Preamble, Postamble}
 use Rattle.dvi_ops.specs.Spelling.{byte_at}
-use Rattle.dvi_doc.specs.Grammar.{IsNamed, IsSized, Defines, SameUnits}
+use Rattle.dvi_doc.specs.Grammar.{IsNamed, IsSized, SameUnits}
 use Rattle.dvi_doc.specs.Faults.{SomeFont}
 use Rattle.dvi_doc.specs.declared.fault.DocFault.{DocFault}
 use Rattle.dvi_doc.specs.declared.fault.DocFault.TheVariants as fault
@@ -13,12 +13,6 @@ abbrev pub DefinitionFault : Definition → DocFault → Type 0
 DefinitionFault d (fault.BadName k) = (d.k ≡ k) × (IsNamed d → ⊥)
 DefinitionFault d (fault.BadSize k) = (d.k ≡ k) × (IsSized d → ⊥)
 DefinitionFault d _ = ⊥
-
--- what is wrong with one definition behind others
-abbrev pub AddFault : List Definition → Definition → DocFault → Type 0
-AddFault ds d (fault.FontTwice k) = (d.k ≡ k) × Defines ds k
-AddFault ds d fault.OutOfMemory = Unit {0}
-AddFault ds d e = DefinitionFault d e
 
 -- all bytes from this place on are 223, and the one before it isn't
 abbrev pub FillsFrom : List ℕ → ℕ → Type 0

@@ -5,7 +5,6 @@ use Rattle.dvi_ops.specs.Command.{Definition, Preamble, Postamble}
 use Rattle.dvi_doc.specs.Document.{PageOf, Document}
 use Rattle.dvi_doc.specs.Grammar.{IsDoc}
 use Rattle.dvi_doc.specs.declared.page.Page.{Page}
-use Rattle.dvi_doc.specs.declared.font.FontDef.{FontDef}
 use Rattle.dvi_doc.specs.declared.font.FontKey.{FontKey}
 
 -- a page by its places, without its commands
@@ -20,18 +19,6 @@ outline p = record { at = p.at; first = p.first; eop = p.eop; counts = p.counts 
 
 abbrev pub page_view : Page → Outline
 page_view p = record { at = p.at; first = p.first; eop = p.eop; counts = p.counts }
-
--- a font of the code is a definition whose sizes are above 0
-abbrev pub font_view : FontDef → Definition
-font_view f =
-    record {
-      k = f.k;
-      checksum = f.checksum;
-      size = pos f.size;
-      design = pos f.design;
-      area = f.area;
-      name = f.name.now;
-    }
 
 -- the key has the definition's name and its three numbers
 abbrev pub IsKeyOf : Definition → FontKey → Type 0

@@ -1,9 +1,8 @@
-//! One font definition, and whether it is as it should be.
-ghost use Rattle.std.specs.Prelude.{◌≡◌, IsTrue, ◌↔◌, IfOk, IfErr, MatchBool};
+//! One font definition: whether it is as it should be, and what tells its font from others.
+ghost use Rattle.std.specs.Prelude.{◌≡◌, IsTrue, ◌↔◌, OnOk, IfErr, MatchBool};
 ghost use Rattle.dvi_ops.specs.View.{def_view};
-ghost use Rattle.dv_base.specs.FontName.{IsFontName};
-ghost use Rattle.dvi_doc.specs.Grammar.{IsNamed, IsSize};
-ghost use Rattle.dvi_doc.specs.View.{font_view, IsKeyOf};
+ghost use Rattle.dvi_doc.specs.Grammar.{IsNamed, IsSize, IsSized};
+ghost use Rattle.dvi_doc.specs.View.{IsKeyOf};
 ghost use Rattle.dvi_doc.specs.PartFaults.{DefinitionFault};
 
 use crate::fault::DocFault;
@@ -19,32 +18,19 @@ pub struct FontKey {
     pub design: u32,
 }
 
-/// A font that the postamble defines, and its number there. Sizes are in DVI units.
-///
-/// It lends its name from the document's bytes: a document may define a hundred thousand fonts, and a [`FontKey`] has room for the
-/// longest name.
-#[derive(Clone, Copy, Drop)]
-pub struct FontDef<'a> {
-    pub k: i64,
-    pub checksum: u32,
-    pub size: u32,
-    pub design: u32,
-    area: u8,
-    name: &'a [u8],
-}
-
-impl<'a> FontDef<'a> {
-    /// What tells the font from others.
-    pub fn key(&self) -> FontKey
-        requires { IsNamed (font_view self.now) }
-        ensures { IsKeyOf (font_view self.now) result }
+impl FontKey {
+    /// What tells the font of this definition from others.
+    pub fn of(font: &Def<'_>) -> FontKey
+        requires named { IsNamed (def_view font.now) }
+        requires sized { IsSized (def_view font.now) }
+        ensures { IsKeyOf (def_view font.now) result }
     {
-        match font_name(self.name) {
+        match font_name(font.name) {
             Some(name) => FontKey {
                 name,
-                checksum: self.checksum,
-                size: self.size,
-                design: self.design,
+                checksum: font.checksum,
+                size: font.size as u32,
+                design: font.design as u32,
             },
             None => unreachable!(),
         }
@@ -61,10 +47,10 @@ fn are_sizes(size: i32, design: i32) -> bool
     1 <= size && size <= LARGEST && 1 <= design && design <= LARGEST
 }
 
-/// The font of a definition: `BadName` or `BadSize` where it isn't as it should be.
-pub fn font_of<'a>(def: Def<'a>) -> Result<FontDef<'a>, DocFault>
-    ensures found { IfOk result (λ f. (font_view f ≡ def_view def.entry) × IsFontName def.entry.name.now × IsSize def.entry.size × IsSize def.entry.design) }
-    ensures fault { IfErr result (DefinitionFault (def_view def.entry)) }
+/// That a definition is as it should be: else `BadName` or `BadSize`.
+pub fn check_font(def: &Def<'_>) -> Result<(), DocFault>
+    ensures good { OnOk result (IsNamed (def_view def.now) × IsSized (def_view def.now)) }
+    ensures fault { IfErr result (DefinitionFault (def_view def.now)) }
 {
     let Some(_) = font_name(def.name) else {
         return Err(DocFault::BadName { k: def.k });
@@ -72,26 +58,17 @@ pub fn font_of<'a>(def: Def<'a>) -> Result<FontDef<'a>, DocFault>
     if !are_sizes(def.size, def.design) {
         return Err(DocFault::BadSize { k: def.k });
     }
-    Ok(FontDef {
-        k: def.k,
-        checksum: def.checksum,
-        size: def.size as u32,
-        design: def.design as u32,
-        area: def.area,
-        name: def.name,
-    })
+    Ok(())
 }
 
-/// Whether a font is what a definition says, in all fields.
-pub fn is_same(font: &FontDef<'_>, def: &Def<'_>) -> bool
-    ensures { IsTrue result ↔ (font_view font.now ≡ def_view def.now) }
+/// Whether two definitions are equal in all fields.
+pub fn is_same(one: &Def<'_>, other: &Def<'_>) -> bool
+    ensures { IsTrue result ↔ (def_view one.now ≡ def_view other.now) }
 {
-    font.k == def.k
-        && font.checksum == def.checksum
-        && def.size >= 0
-        && font.size == def.size as u32
-        && def.design >= 0
-        && font.design == def.design as u32
-        && font.area == def.area
-        && font.name == def.name
+    one.k == other.k
+        && one.checksum == other.checksum
+        && one.size == other.size
+        && one.design == other.design
+        && one.area == other.area
+        && one.name == other.name
 }

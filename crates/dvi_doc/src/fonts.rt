@@ -1,85 +1,89 @@
 //! The fonts of a postamble, by number.
-ghost use Rattle.std.specs.Prelude.{◌≡◌, IfOk, IfErr, OnOk, MatchBool, MatchOption, map, ◌++◌, ◌∷◌, []};
-ghost use Rattle.std.specs.List.{Contains};
+ghost use Rattle.std.specs.Prelude.{◌≡◌, IfOk, IfErr, OnOk, MatchBool, MatchOption, map};
+ghost use Rattle.std.specs.List.{Contains, All};
+ghost use Rattle.std.specs.List.Sorted.{IsPermutation};
 ghost use Rattle.dvi_ops.specs.View.{def_view};
-ghost use Rattle.dvi_doc.specs.Grammar.{AreFonts, AllAmong, Defines};
-ghost use Rattle.dvi_doc.specs.View.{font_view};
+ghost use Rattle.dvi_doc.specs.Grammar.{AreFonts, AllAmong, Defines, IsNamed, IsSized};
+ghost use Rattle.dvi_doc.specs.Numbered.{numbered};
 ghost use Rattle.dvi_doc.specs.Faults.{FontFault};
-ghost use Rattle.dvi_doc.specs.PartFaults.{AddFault, Differs};
+ghost use Rattle.dvi_doc.specs.PartFaults.{Differs};
 
 use crate::fault::DocFault;
-use crate::font::{FontDef, font_of, is_same};
-use dvi_ops::{Def, FontNumbers};
-use std::alloc::Global;
+use crate::font::{check_font, is_same};
+use dvi_ops::{Def, NumberIndex};
+use std::alloc::{AllocError, Global};
 use std::marker::Model;
 
-/// Fonts in the order of their definitions, each number once. The place of a number among the numbers is that of its font.
+/// Fonts in the order of their definitions, each number once, and an index of their numbers.
 #[derive(Drop)]
 pub struct Fonts<'a> {
-    fonts: Vec<FontDef<'a>>,
-    numbers: FontNumbers,
+    fonts: Vec<Def<'a>>,
+    index: NumberIndex,
 }
 
 impl<'a> Model for Fonts<'a> {
-    ghost use Rattle.dvi_doc.specs.View.{font_view};
-    ghost use Rattle.dvi_doc.specs.Grammar.{number_of};
+    ghost use Rattle.dvi_ops.specs.View.{def_view};
     ghost use Rattle.dvi_ops.specs.Command.{Definition};
-    ghost use Rattle.std.specs.Prelude.{◌≡◌, List, map};
+    ghost use Rattle.dvi_doc.specs.Numbered.{numbered};
+    ghost use Rattle.std.specs.Prelude.{List, map};
+    ghost use Rattle.std.specs.List.Sorted.{IsPermutation};
 
     ghost Value = { List Definition };
 
-    ghost view = { λ f. map font_view f.fonts.items };
+    ghost view = { λ f. map def_view f.fonts.items };
 
-    ghost invariant = { λ f. f.numbers ≡ map number_of (map font_view f.fonts.items) };
+    ghost invariant = { λ f. IsPermutation (numbered 0 (map def_view f.fonts.items)) f.index };
+}
+
+/// That each definition is as it should be.
+fn check_each(defs: &[Def<'_>]) -> Result<(), DocFault>
+    ensures named { OnOk result (All IsNamed (map def_view defs.now)) }
+    ensures sized { OnOk result (All IsSized (map def_view defs.now)) }
+    ensures fault { IfErr result (FontFault (map def_view defs.now)) }
+{
+    for def in defs {
+        check_font(def)?;
+    }
+    Ok(())
+}
+
+/// The index of the numbers of definitions.
+fn index_of(alloc: Global, defs: &[Def<'_>]) -> Result<NumberIndex, AllocError>
+    ensures { IfOk result (λ index. IsPermutation (numbered 0 (map def_view defs.now)) index) }
+{
+    let mut pairs = Vec::new(alloc);
+    for (place, def) in defs.iter().enumerate() {
+        pairs.push((def.k, place))?;
+    }
+    Ok(NumberIndex::new(pairs))
 }
 
 impl<'a> Fonts<'a> {
     /// The fonts of these definitions.
-    pub fn new(alloc: Global, defs: &[Def<'a>]) -> Result<Fonts<'a>, DocFault>
-        ensures found { IfOk result (λ fonts. (fonts ≡ map def_view defs.now) × AreFonts fonts) }
-        ensures fault { IfErr result (FontFault (map def_view defs.now)) }
+    pub fn new(alloc: Global, defs: Vec<Def<'a>>) -> Result<Fonts<'a>, DocFault>
+        ensures found { IfOk result (λ fonts. (fonts ≡ map def_view defs.entry.items) × AreFonts fonts) }
+        ensures fault { IfErr result (FontFault (map def_view defs.entry.items)) }
     {
-        let mut all = Fonts {
-            fonts: Vec::new(alloc),
-            numbers: FontNumbers::new(alloc),
-        };
-        for def in defs {
-            all = all.with(*def)?;
+        check_each(&defs)?;
+        let index = index_of(alloc, &defs)?;
+        if let Some(k) = index.twice() {
+            return Err(DocFault::FontTwice { k });
         }
-        Ok(all)
-    }
-
-    /// These and one more, behind them.
-    fn with(self, def: Def<'a>) -> Result<Fonts<'a>, DocFault>
-        requires { AreFonts self }
-        ensures added { IfOk result (λ fonts. (fonts ≡ self.entry ++ def_view def.entry ∷ []) × AreFonts fonts) }
-        ensures fault { IfErr result (AddFault self.entry (def_view def.entry)) }
-    {
-        let font = font_of(def)?;
-        let Fonts {
-            mut fonts,
-            mut numbers,
-        } = self;
-        let is_new = numbers.push(def.k)?;
-        if !is_new {
-            return Err(DocFault::FontTwice { k: def.k });
-        }
-        fonts.push(font)?;
-        Ok(Fonts { fonts, numbers })
+        Ok(Fonts { fonts: defs, index })
     }
 
     /// All of them.
-    pub fn all(&self) -> &[FontDef<'a>]
-        ensures { map font_view result.now ≡ self.now }
+    pub fn all(&self) -> &[Def<'a>]
+        ensures { map def_view result.now ≡ self.now }
     {
         &self.fonts
     }
 
     /// The font of a number; `None` exactly where there is none.
-    pub fn get(&self, k: i64) -> Option<&FontDef<'a>>
-        ensures { MatchOption result (Defines self.now k → ⊥) (λ font. Contains self.now (font_view font.now) × (font.now.k ≡ k)) }
+    pub fn get(&self, k: i64) -> Option<&Def<'a>>
+        ensures { MatchOption result (Defines self.now k → ⊥) (λ font. Contains self.now (def_view font.now) × (font.now.k ≡ k)) }
     {
-        let place = self.numbers.place(k)?;
+        let place = self.index.place(k)?;
         Some(&self.fonts[place])
     }
 

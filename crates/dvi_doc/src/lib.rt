@@ -27,8 +27,9 @@ mod tail;
 mod trailer;
 
 pub use doc::Doc;
+pub use dvi_ops::Def as FontDef;
 pub use fault::DocFault;
-pub use font::{FontDef, FontKey};
+pub use font::FontKey;
 pub use laws::one_document;
 pub use page::Page;
 

@@ -182,7 +182,7 @@ fn parts_of_a_document(rt: HostRuntime) -> Result<(), Fail> {
     let Some(font) = doc.font(0) else {
         return Err("font 0".into());
     };
-    let key = font.key();
+    let key = FontKey::of(font);
     assert_eq!(rt; key.name.as_str(), "cmr10");
     assert_eq!(rt;
         (font.k, key.checksum, key.size, key.design),

@@ -6,3 +6,4 @@ pub mod View
 pub mod Laws
 pub mod Plain
 pub mod FontNumbers
+pub mod NumberIndex

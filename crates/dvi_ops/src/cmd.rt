@@ -5,6 +5,7 @@ use thiserror::Error;
 /// A font definition (DVI format, `fnt_def1` to `fnt_def4`).
 ///
 /// `size` and `design` are in DVI units, as the file has them: they may be negative here.
+// A document may define a hundred thousand fonts: in this order the fields leave the fewest gaps.
 #[derive(Clone, Copy, Debug)]
 pub struct Def<'a> {
     /// The number by which the file selects the font.
@@ -15,10 +16,10 @@ pub struct Def<'a> {
     pub size: i32,
     /// The size that it was designed for.
     pub design: i32,
-    /// The area and the name of the font, joined.
-    pub name: &'a [u8],
     /// How many bytes of `name` are the area.
     pub area: u8,
+    /// The area and the name of the font, joined.
+    pub name: &'a [u8],
 }
 
 /// What stands before all pages (DVI format, `pre`).

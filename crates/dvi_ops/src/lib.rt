@@ -19,12 +19,14 @@ mod font_numbers;
 mod laws;
 mod length;
 mod number;
+mod number_index;
 mod plain;
 mod read;
 
 pub use cmd::{Cmd, Def, Head, OpFault, Tail};
 pub use font_numbers::FontNumbers;
 pub use laws::{one_reading, one_spelling};
+pub use number_index::NumberIndex;
 pub use plain::{is_nop, pass};
 pub use read::next_cmd;
 

@@ -7,8 +7,9 @@ use Rattle.std.proofs.lemmas.Bool.Decides.{Decides-int_eq}
 use Rattle.std.proofs.lemmas.Int.{ints}
 use Rattle.dvi_ops.specs.Command.{Definition}
 use Rattle.dvi_doc.specs.Grammar.{AreFonts, Defines, DefinesTwice, IsNamed, IsSized, IsSize}
-use Rattle.dvi_doc.specs.View.{font_view, IsKeyOf}
-use Rattle.dvi_doc.specs.declared.font.FontDef.{FontDef}
+use Rattle.dvi_ops.specs.View.{def_view}
+use Rattle.dvi_ops.specs.declared.cmd.Def.{Def}
+use Rattle.dvi_doc.specs.View.{IsKeyOf}
 use Rattle.dvi_doc.specs.declared.font.FontKey.{FontKey}
 use Rattle.dv_base.specs.FileName.{text_of}
 use Rattle.dv_base.specs.FontName.{IsFontName}
@@ -48,16 +49,16 @@ units_of : (n : ℕ) → IsSize (pos n) → IsUnits n
 units_of n h = (omega (arith, ints, h.0), omega (arith, ints, h.1))
 
 -- the key of a definition of the document is what its number names
-key_is : (ds : List Definition) (f : FontDef) (key : FontKey) (k : ℤ) → AreFonts ds → Contains ds (font_view f) → f.k ≡ k → IsKeyOf (font_view f) key
+key_is : (ds : List Definition) (f : Def) (key : FontKey) (k : ℤ) → AreFonts ds → Contains ds (def_view f) → f.k ≡ k → IsKeyOf (def_view f) key
     → (key_in (page_fonts ds) k ≡ Some (key_of key)) × IsKey (key_of key)
 key_is ds f key k a c e h =
-    let d = font_view f in
+    let d = def_view f in
     let named : IsNamed d = subst IsNamed c.2 (a.1 c.0 d c.1) in
     let sized : IsSized d = subst IsSized c.2 (a.2 c.0 d c.1) in
     let name : f.name.now ≡ text_of key.name = sym h.0 in
     let checksum : f.checksum ≡ key.checksum = sym h.1 in
-    let size : f.size ≡ key.size = sym (ap unsigned_abs h.2) in
-    let design : f.design ≡ key.design = sym (ap unsigned_abs h.3) in
+    let size : unsigned_abs f.size ≡ key.size = sym (ap unsigned_abs h.2) in
+    let design : unsigned_abs f.design ≡ key.design = sym (ap unsigned_abs h.3) in
     let same : (named_by d).key ≡ Some (key_of key) = λ i. Some (record { name = name i; checksum = checksum i; size = size i; design = design i }) in (
       key_found ds k c.0 d a.0 c.1 c.2 e ∙ same,
       record {
@@ -67,8 +68,8 @@ key_is ds f key k a c e h =
       },
     )
 
-pub page_key : (ds : List Definition) (first : ℕ) (bytes : List ℕ) (f : FontDef) (key : FontKey) (k : ℤ) → AreFonts ds → Contains ds (font_view f) → f.k ≡ k
-    → IsKeyOf (font_view f) key → KeyAnswer (page_in ds first bytes).scope.fonts k (Some key)
+pub page_key : (ds : List Definition) (first : ℕ) (bytes : List ℕ) (f : Def) (key : FontKey) (k : ℤ) → AreFonts ds → Contains ds (def_view f) → f.k ≡ k
+    → IsKeyOf (def_view f) key → KeyAnswer (page_in ds first bytes).scope.fonts k (Some key)
 unfolding page_in
 page_key ds first bytes f key k a c e h = key_is ds f key k a c e h
 

@@ -68,7 +68,7 @@ impl<'a> Sheet<'a> {
         ensures { KeyAnswer self.now.page.scope.fonts k result }
     {
         match self.doc.font(k) {
-            Some(font) => Some(font.key()),
+            Some(font) => Some(FontKey::of(font)),
             None => None,
         }
     }

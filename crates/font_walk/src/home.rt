@@ -8,7 +8,7 @@ ghost use Rattle.font_walk.specs.Homes.{first_of, spot_of, scope_of, scope_in, p
 
 use crate::grid::Grid;
 use dv_base::{FontId, Spot, scale};
-use dvi_doc::Doc;
+use dvi_doc::{Doc, FontKey};
 use font_set::Fonts;
 use positions::Pos;
 
@@ -71,7 +71,7 @@ impl<'a> Frame<'a> {
         match self.home {
             Home::Page { doc, .. } => {
                 let font = doc.font(k)?;
-                self.fonts.id(&font.key())
+                self.fonts.id(&FontKey::of(font))
             }
             Home::Packet { font, .. } => self.fonts.local(font, k),
         }

@@ -1,4 +1,4 @@
-use Rattle.std.proofs.Common.{arith, true, ◌≡◌}
+use Rattle.std.proofs.Common.{arith, ◌≡◌}
 use Rattle.std.proofs.lemmas.Bool.Decides.{nat_tests}
 use Rattle.dvi_ops.specs.Spelling.{byte_at}
 use Rattle.dvi_ops.proofs.Texts.{nop_single}

@@ -18,30 +18,30 @@ pub returns-in_err-fonts-clause-none : goal.returns-in_err-fonts-clause-none
 returns-in_err-fonts-clause-none c =
     let p = err_from_is_err_and c.from_residual-in_err-fonts.result c.from_residual-in_err-fonts.ensures.1 in
     let e = c.in_err-fonts.field-0.0 in
-    let f : FaultIn c.args.bytes.now e = font_fault c.args.bytes.now c.in_ok-parts.parts e c.in_ok-parts.ensures.found (subst (λ (l : List Def). FontFault (map def_view l) e) c.deref.ensures.value c.in_err-fonts.ensures.fault) in
+    let f : FaultIn c.args.bytes.now e = font_fault c.args.bytes.now c.in_ok-parts.parts e c.in_ok-parts.ensures.found c.in_err-fonts.ensures.fault in
     rw (p.1, p.2) (refute c.one_spelling.ensures c.args.bytes.now e f)
 
 pub returns-in_err-fonts-clause-fault : goal.returns-in_err-fonts-clause-fault
 returns-in_err-fonts-clause-fault c =
     let p = err_from_is_err_and c.from_residual-in_err-fonts.result c.from_residual-in_err-fonts.ensures.1 in
     let e = c.in_err-fonts.field-0.0 in
-    rw (p.1, p.2) (font_fault c.args.bytes.now c.in_ok-parts.parts e c.in_ok-parts.ensures.found (subst (λ (l : List Def). FontFault (map def_view l) e) c.deref.ensures.value c.in_err-fonts.ensures.fault))
+    rw (p.1, p.2) (font_fault c.args.bytes.now c.in_ok-parts.parts e c.in_ok-parts.ensures.found c.in_err-fonts.ensures.fault)
 
 pub returns-in_err-check-clause-fault : goal.returns-in_err-check-clause-fault
 returns-in_err-check-clause-fault c =
     let p = err_from_is_err_and c.from_residual-in_err-check.result c.from_residual-in_err-check.ensures.1 in
     let e = c.in_err-check.field-0.0 in
     rw (p.1, p.2) (differs_fault c.args.bytes.now c.in_ok-parts.parts c.in_ok-fonts.fonts e c.in_ok-parts.ensures.found
-    (c.in_ok-fonts.ensures.found.0 ∙ ap (map def_view) c.deref.ensures.value)
-    (subst (λ (l : List Def). Differs c.in_ok-fonts.fonts (map def_view l) e) c.deref-2.ensures.value c.in_err-check.ensures.fault))
+    c.in_ok-fonts.ensures.found.0
+    (subst (λ (l : List Def). Differs c.in_ok-fonts.fonts (map def_view l) e) c.deref.ensures.value c.in_err-check.ensures.fault))
 
 pub returns-in_err-check-clause-none : goal.returns-in_err-check-clause-none
 returns-in_err-check-clause-none c =
     let p = err_from_is_err_and c.from_residual-in_err-check.result c.from_residual-in_err-check.ensures.1 in
     let e = c.in_err-check.field-0.0 in
     let f : FaultIn c.args.bytes.now e = differs_fault c.args.bytes.now c.in_ok-parts.parts c.in_ok-fonts.fonts e c.in_ok-parts.ensures.found
-    (c.in_ok-fonts.ensures.found.0 ∙ ap (map def_view) c.deref.ensures.value)
-    (subst (λ (l : List Def). Differs c.in_ok-fonts.fonts (map def_view l) e) c.deref-2.ensures.value c.in_err-check.ensures.fault) in
+    c.in_ok-fonts.ensures.found.0
+    (subst (λ (l : List Def). Differs c.in_ok-fonts.fonts (map def_view l) e) c.deref.ensures.value c.in_err-check.ensures.fault) in
     rw (p.1, p.2) (refute c.one_spelling.ensures c.args.bytes.now e f)
 
 pub returns-in_err-check_tail-clause-fault : goal.returns-in_err-check_tail-clause-fault
@@ -62,13 +62,13 @@ returns-in_err-check_tail-clause-none c =
 pub invariant_of-result : goal.invariant_of-result
 invariant_of-result c =
     let n : c.len.result ≡ length c.in_ok-parts.parts.body.pages.items = search rules in
-    doc_found c.args.bytes.now c.in_ok-parts.parts c.in_ok-fonts.fonts c.len.result c.in_ok-parts.ensures.found (c.in_ok-fonts.ensures.found.0 ∙ ap (map def_view) c.deref.ensures.value) c.in_ok-fonts.ensures.found.1
-    (subst (λ (l : List Def). AllAmong c.in_ok-fonts.fonts (map def_view l)) c.deref-2.ensures.value c.in_ok-check.ensures.same) n c.in_ok-check_tail.ensures.same
+    doc_found c.args.bytes.now c.in_ok-parts.parts c.in_ok-fonts.fonts c.len.result c.in_ok-parts.ensures.found c.in_ok-fonts.ensures.found.0 c.in_ok-fonts.ensures.found.1
+    (subst (λ (l : List Def). AllAmong c.in_ok-fonts.fonts (map def_view l)) c.deref.ensures.value c.in_ok-check.ensures.same) n c.in_ok-check_tail.ensures.same
 
 pub returns-clause-found : goal.returns-clause-found
 returns-clause-found c =
     let n : c.len.result ≡ length c.in_ok-parts.parts.body.pages.items = search rules in (
       refl,
-      doc_found c.args.bytes.now c.in_ok-parts.parts c.in_ok-fonts.fonts c.len.result c.in_ok-parts.ensures.found (c.in_ok-fonts.ensures.found.0 ∙ ap (map def_view) c.deref.ensures.value) c.in_ok-fonts.ensures.found.1
-          (subst (λ (l : List Def). AllAmong c.in_ok-fonts.fonts (map def_view l)) c.deref-2.ensures.value c.in_ok-check.ensures.same) n c.in_ok-check_tail.ensures.same,
+      doc_found c.args.bytes.now c.in_ok-parts.parts c.in_ok-fonts.fonts c.len.result c.in_ok-parts.ensures.found c.in_ok-fonts.ensures.found.0 c.in_ok-fonts.ensures.found.1
+          (subst (λ (l : List Def). AllAmong c.in_ok-fonts.fonts (map def_view l)) c.deref.ensures.value c.in_ok-check.ensures.same) n c.in_ok-check_tail.ensures.same,
     )

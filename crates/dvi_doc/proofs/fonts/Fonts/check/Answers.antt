@@ -3,8 +3,9 @@ use Rattle.std.proofs.lemmas.Int.{to_z-of_z}
 use Rattle.std.proofs.lemmas.List.{take_all}
 use Rattle.dvi_ops.specs.View.{def_view}
 use Rattle.dvi_ops.specs.declared.cmd.Def.{Def}
+use Rattle.std.specs.List.{Contains}
 use Rattle.dvi_doc.specs.Grammar.{AllAmong}
-use Rattle.dvi_doc.proofs.Defined.{contains_middle, among_more}
+use Rattle.dvi_doc.proofs.Defined.{contains_middle, all_more}
 use Rattle.dvi_doc.proofs.fonts.Fonts.check.Goals as goal
 
 pub returns-then-not-has-clause-fault : goal.returns-then-not-has-clause-fault
@@ -17,7 +18,7 @@ returns-then-not-has-clause-fault c =
 pub loop-def-preserved : goal.loop-def-preserved
 loop-def-preserved c =
     let none : Def = record { k = pos 0; checksum = 0; size = pos 0; design = pos 0; name = record { ref_ptr = (0, 0); now = [] }; area = 0 } in
-    among_more c.args.self.now c.args.defs.now c.loop-def.def-index none c.loop-def-test.true c.loop-def.invariant c.if-not-has.ensures
+    all_more (λ x. Contains c.args.self.now x) c.args.defs.now c.loop-def.def-index none c.loop-def-test.true c.loop-def.invariant c.if-not-has.ensures
 
 pub returns-clause-same : goal.returns-clause-same
 returns-clause-same c =

@@ -11,8 +11,8 @@ pub returns-in-Some : goal.returns-in-Some
 returns-in-Some c =
     let fits : FitsSigned w64 c.args.k = search rules in
     let e = c.in-Some.ensures.found in
-    subst (λ (s : PageBytes). KeyAnswer s.page.scope.fonts c.args.k (Some c.key.result)) c.self.view_is
-    (page_key c.self.inside.doc.now.fonts c.self.inside.first c.self.inside.bytes.now c.in-Some.font.now c.key.result c.args.k c.self.invariant e.0 (e.1 ∙ to_z-of_z w64 c.args.k fits) c.key.ensures)
+    subst (λ (s : PageBytes). KeyAnswer s.page.scope.fonts c.args.k (Some c.of.result)) c.self.view_is
+    (page_key c.self.inside.doc.now.fonts c.self.inside.first c.self.inside.bytes.now c.in-Some.font.now c.of.result c.args.k c.self.invariant e.0 (e.1 ∙ to_z-of_z w64 c.args.k fits) c.of.ensures)
 
 pub returns-in-None : goal.returns-in-None
 returns-in-None c =

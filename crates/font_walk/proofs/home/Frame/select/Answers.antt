@@ -1,7 +1,7 @@
 use Rattle.std.proofs.Common.{◌≡◌, ◌∙◌, ℤ, Some, refl, sym, ap, subst, w64}
 use Rattle.std.proofs.lemmas.Int.{to_z-of_z}
 use Rattle.dvi_doc.specs.Grammar.{Defines}
-use Rattle.dvi_doc.specs.View.{font_view}
+use Rattle.dvi_ops.specs.View.{def_view}
 use Rattle.font_set.specs.Fonts.{place_of}
 use Rattle.font_set.specs.Programs.{select, id_of}
 use Rattle.font_walk.proofs.Selecting.{key_none, key_one, key_is}
@@ -20,7 +20,7 @@ returns-in_ok-font-in-Page c =
     let ds = c.in-Page.doc.now.fonts in
     let found = c.in_ok-font-in-Page.ensures.found in
     let once = rw c.in-Page.is at c.requires.given in
-    let def = font_view c.in_ok-font-in-Page.font.now in
+    let def = def_view c.in_ok-font-in-Page.font.now in
     rw c.in-Page.is
     (c.id.ensures.value
     ∙ ap (place_of c.args.self.now.fonts.now.fonts) (key_is def c.key.result c.key.ensures)

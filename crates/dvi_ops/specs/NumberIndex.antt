@@ -1,0 +1,9 @@
+-- Pairs of a number and a place, by number.
+use Rattle.std.specs.Prelude.{◌≡◌, ◌<◌, ℕ, ℤ, pos, List, length, slice_index_or}
+
+abbrev pub number_at : List (ℤ × ℕ) → ℕ → ℤ
+number_at pairs at = (slice_index_or pairs at (pos 0, 0)).0
+
+-- two of the pairs have this number
+abbrev pub HasTwice : List (ℤ × ℕ) → ℤ → Type 0
+HasTwice pairs k = (i : ℕ) × (j : ℕ) × (i < j) × (j < length pairs) × (number_at pairs i ≡ k) × (number_at pairs j ≡ k)
