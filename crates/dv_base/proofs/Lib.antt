@@ -2,3 +2,4 @@ pub mod MessageLaws
 pub mod Conversions
 pub mod Divided
 pub mod Products
+pub mod Taken

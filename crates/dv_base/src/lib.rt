@@ -49,7 +49,7 @@ pub use font_id::{FontId, Spot};
 pub use line::Line;
 pub use mem_shelf::MemShelf;
 pub use mem_tray::MemTray;
-pub use name::{FileName, font_name};
+pub use name::{FileName, font_name, is_font_name};
 pub use number::{signed, unsigned};
 pub use shelf::{Got, Shelf};
 pub use site::Site;

@@ -1,5 +1,5 @@
 //! Names of files, and of fonts.
-ghost use Rattle.std.specs.Prelude.{◌≡◌, ◌<◌, ◌≤◌, length, IsTrue, ◌↔◌, MatchOption};
+ghost use Rattle.std.specs.Prelude.{◌≡◌, ◌<◌, ◌≤◌, length, IsTrue, ◌↔◌, MatchBool, MatchOption};
 ghost use Rattle.dv_base.specs.FileName.{text_of};
 ghost use Rattle.dv_base.specs.FontName.{IsFontName, IsNameByte};
 
@@ -46,18 +46,28 @@ fn is_name_byte(byte: u8) -> bool
     33 <= byte && byte <= 126 && byte != b'/'
 }
 
-/// A font's name, its area included, as a text; `None` exactly where no font may have this name: it is to have 1 to 255 bytes, each
-/// a visible ASCII character other than `/`, since it becomes the name of a file.
-pub fn font_name(name: &[u8]) -> Option<FileName>
-    ensures { MatchOption result (IsFontName name.now → ⊥) (λ text. IsFontName name.now × (text_of text ≡ name.now)) }
+/// Whether a font may have this name, its area included: it is to have 1 to 255 bytes, each a visible ASCII character other than `/`,
+/// since it becomes the name of a file.
+pub fn is_font_name(name: &[u8]) -> bool
+    ensures { MatchBool result (IsFontName name.now) (IsFontName name.now → ⊥) }
 {
     if name.is_empty() || name.len() > LONGEST_FONT {
-        return None;
+        return false;
     }
     for byte in name {
         if !is_name_byte(*byte) {
-            return None;
+            return false;
         }
+    }
+    true
+}
+
+/// A font's name, its area included, as a text; `None` exactly where no font may have this name.
+pub fn font_name(name: &[u8]) -> Option<FileName>
+    ensures { MatchOption result (IsFontName name.now → ⊥) (λ text. IsFontName name.now × (text_of text ≡ name.now)) }
+{
+    if !is_font_name(name) {
+        return None;
     }
     match str::from_utf8(name) {
         Ok(text) => FileName::new(text),

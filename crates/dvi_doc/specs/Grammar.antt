@@ -1,10 +1,11 @@
 -- When bytes are a document (DVI format, the order of commands in a file).
-use Rattle.std.specs.Prelude.{◌≡◌, ◌≤◌, ◌%◌, ◌^◌, ◌⊎◌, ℕ, ℤ, pos, negsuc, ◌≤ℤ◌, ◌<ℤ◌, List, [], ◌∷◌, ◌++◌, length}
+use Rattle.std.specs.Prelude.{◌≡◌, ◌≤◌, ◌%◌, ◌^◌, ◌⊎◌, ℕ, ℤ, pos, negsuc, ◌≤ℤ◌, ◌<ℤ◌, List, [], ◌∷◌, ◌++◌, length, map}
 use Rattle.std.specs.List.{All, Contains}
 use Rattle.dv_base.specs.FontName.{IsFontName}
 use Rattle.dvi_ops.specs.Command.{Command, Definition, Preamble, Postamble}
 use Rattle.dvi_ops.specs.Command.Command.{Bop, Eop, Pre, Post, PostPost, Nop, FntDef}
 pub use Rattle.dvi_ops.specs.Placed.{Placed, Lexes}
+use Rattle.dvi_ops.specs.Numbered.{Has, HasTwice}
 use Rattle.dvi_doc.specs.Document.{Item, File, Document, commands_of, last_bop, document_of}
 use Rattle.dvi_doc.specs.Document.Item.{Filler, Paged}
 
@@ -69,15 +70,17 @@ IsSized d = IsSize d.size × IsSize d.design
 abbrev pub number_of : Definition → ℤ
 number_of d = d.k
 
+-- the numbers of definitions, in their order
+abbrev pub numbers_of : List Definition → List ℤ
+numbers_of ds = map number_of ds
+
 -- one of the definitions has this number
 abbrev pub Defines : List Definition → ℤ → Type 0
-Defines [] k = ⊥
-Defines (d ∷ ds) k = (d.k ≡ k) ⊎ Defines ds k
+Defines ds k = Has (numbers_of ds) k
 
 -- two of the definitions have this number
 abbrev pub DefinesTwice : List Definition → ℤ → Type 0
-DefinesTwice [] k = ⊥
-DefinesTwice (d ∷ ds) k = ((d.k ≡ k) × Defines ds k) ⊎ DefinesTwice ds k
+DefinesTwice ds k = HasTwice (numbers_of ds) k
 
 -- The postamble's definitions: each number once, and names and sizes as they have to be.
 abbrev pub AreFonts : List Definition → Type 0

@@ -6,4 +6,3 @@ pub mod Faults
 pub mod PartFaults
 pub mod Steps
 pub mod Laws
-pub mod Numbered

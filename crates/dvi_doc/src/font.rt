@@ -6,7 +6,7 @@ ghost use Rattle.dvi_doc.specs.View.{IsKeyOf};
 ghost use Rattle.dvi_doc.specs.PartFaults.{DefinitionFault};
 
 use crate::fault::DocFault;
-use dv_base::{FileName, font_name};
+use dv_base::{FileName, font_name, is_font_name};
 use dvi_ops::Def;
 
 /// What tells one font from another: its name, area included, and the three numbers of its definition. Sizes are in DVI units.
@@ -52,9 +52,9 @@ pub fn check_font(def: &Def<'_>) -> Result<(), DocFault>
     ensures good { OnOk result (IsNamed (def_view def.now) × IsSized (def_view def.now)) }
     ensures fault { IfErr result (DefinitionFault (def_view def.now)) }
 {
-    let Some(_) = font_name(def.name) else {
+    if !is_font_name(def.name) {
         return Err(DocFault::BadName { k: def.k });
-    };
+    }
     if !are_sizes(def.size, def.design) {
         return Err(DocFault::BadSize { k: def.k });
     }

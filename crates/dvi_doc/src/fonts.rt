@@ -3,8 +3,8 @@ ghost use Rattle.std.specs.Prelude.{◌≡◌, IfOk, IfErr, OnOk, MatchBool, Mat
 ghost use Rattle.std.specs.List.{Contains, All};
 ghost use Rattle.std.specs.List.Sorted.{IsPermutation};
 ghost use Rattle.dvi_ops.specs.View.{def_view};
-ghost use Rattle.dvi_doc.specs.Grammar.{AreFonts, AllAmong, Defines, IsNamed, IsSized};
-ghost use Rattle.dvi_doc.specs.Numbered.{numbered};
+ghost use Rattle.dvi_doc.specs.Grammar.{AreFonts, AllAmong, Defines, IsNamed, IsSized, numbers_of};
+ghost use Rattle.dvi_ops.specs.Numbered.{numbered};
 ghost use Rattle.dvi_doc.specs.Faults.{FontFault};
 ghost use Rattle.dvi_doc.specs.PartFaults.{Differs};
 
@@ -24,7 +24,8 @@ pub struct Fonts<'a> {
 impl<'a> Model for Fonts<'a> {
     ghost use Rattle.dvi_ops.specs.View.{def_view};
     ghost use Rattle.dvi_ops.specs.Command.{Definition};
-    ghost use Rattle.dvi_doc.specs.Numbered.{numbered};
+    ghost use Rattle.dvi_doc.specs.Grammar.{numbers_of};
+    ghost use Rattle.dvi_ops.specs.Numbered.{numbered};
     ghost use Rattle.std.specs.Prelude.{List, map};
     ghost use Rattle.std.specs.List.Sorted.{IsPermutation};
 
@@ -32,7 +33,7 @@ impl<'a> Model for Fonts<'a> {
 
     ghost view = { λ f. map def_view f.fonts.items };
 
-    ghost invariant = { λ f. IsPermutation (numbered 0 (map def_view f.fonts.items)) f.index };
+    ghost invariant = { λ f. IsPermutation (numbered 0 (numbers_of (map def_view f.fonts.items))) f.index };
 }
 
 /// That each definition is as it should be.
@@ -49,7 +50,7 @@ fn check_each(defs: &[Def<'_>]) -> Result<(), DocFault>
 
 /// The index of the numbers of definitions.
 fn index_of(alloc: Global, defs: &[Def<'_>]) -> Result<NumberIndex, AllocError>
-    ensures { IfOk result (λ index. IsPermutation (numbered 0 (map def_view defs.now)) index) }
+    ensures { IfOk result (λ index. IsPermutation (numbered 0 (numbers_of (map def_view defs.now))) index) }
 {
     let mut pairs = Vec::new(alloc);
     for (place, def) in defs.iter().enumerate() {

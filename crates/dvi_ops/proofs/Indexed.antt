@@ -9,7 +9,7 @@ use Rattle.std.specs.Cmp.{IsStrictWeakOrder, int_ranked}
 use Rattle.std.proofs.lemmas.Cmp.{int_cmp_total, tied_itself}
 use Rattle.std.proofs.lemmas.List.{get_or_default}
 use Rattle.std.proofs.lemmas.List.Sorted.{ranks_by, sorted_far, searchable_from_sorted}
-use Rattle.dvi_ops.specs.NumberIndex.{number_at, HasTwice}
+use Rattle.dvi_ops.specs.NumberIndex.{number_at, StandsTwice}
 
 weak : IsStrictWeakOrder (λ (a b : ℤ × ℕ). is_lt (int_cmp a.0 b.0))
 weak = ranks_by int_cmp_total (λ (t : ℤ × ℕ). t.0)
@@ -42,7 +42,7 @@ absent pairs k at up search place h = by (nat_lt h.0 at) refl where
 
 -- where no two neighbours have one number, no two pairs have
 pub apart : (pairs : List (ℤ × ℕ)) → IsSortedByKey (λ (pair : ℤ × ℕ). pair.0) int_cmp pairs → (at : ℕ) → length pairs ≤ at
-    → ((i : ℕ) → i + 1 < at → number_at pairs i ≡ number_at pairs (i + 1) → ⊥) → (k : ℤ) → HasTwice pairs k → ⊥
+    → ((i : ℕ) → i + 1 < at → number_at pairs i ≡ number_at pairs (i + 1) → ⊥) → (k : ℤ) → StandsTwice pairs k → ⊥
 apart pairs up at all other k h = other h.0 (omega (arith, h.2, h.3)) same where
   d : ℤ × ℕ
   d = (pos 0, 0)

@@ -1,9 +1,10 @@
 pub mod Command
 pub mod Spelling
 pub mod Placed
+pub mod Following
 pub mod Reading
 pub mod View
 pub mod Laws
 pub mod Plain
-pub mod FontNumbers
+pub mod Numbered
 pub mod NumberIndex

@@ -5,5 +5,5 @@ abbrev pub number_at : List (ℤ × ℕ) → ℕ → ℤ
 number_at pairs at = (slice_index_or pairs at (pos 0, 0)).0
 
 -- two of the pairs have this number
-abbrev pub HasTwice : List (ℤ × ℕ) → ℤ → Type 0
-HasTwice pairs k = (i : ℕ) × (j : ℕ) × (i < j) × (j < length pairs) × (number_at pairs i ≡ k) × (number_at pairs j ≡ k)
+abbrev pub StandsTwice : List (ℤ × ℕ) → ℤ → Type 0
+StandsTwice pairs k = (i : ℕ) × (j : ℕ) × (i < j) × (j < length pairs) × (number_at pairs i ≡ k) × (number_at pairs j ≡ k)

@@ -15,7 +15,7 @@
 #![tactic(auto)]
 
 mod cmd;
-mod font_numbers;
+mod following;
 mod laws;
 mod length;
 mod number;
@@ -24,7 +24,7 @@ mod plain;
 mod read;
 
 pub use cmd::{Cmd, Def, Head, OpFault, Tail};
-pub use font_numbers::FontNumbers;
+pub use following::command_at;
 pub use laws::{one_reading, one_spelling};
 pub use number_index::NumberIndex;
 pub use plain::{is_nop, pass};

@@ -2,7 +2,7 @@
 ghost use Rattle.std.specs.Prelude.{◌≡◌, ℕ, ℤ, MatchOption};
 ghost use Rattle.std.specs.List.{Contains};
 ghost use Rattle.std.specs.List.Sorted.{IsPermutation};
-ghost use Rattle.dvi_ops.specs.NumberIndex.{HasTwice};
+ghost use Rattle.dvi_ops.specs.NumberIndex.{StandsTwice};
 
 use std::marker::Model;
 
@@ -39,7 +39,7 @@ impl NumberIndex {
 
     /// A number that two of the pairs have; `None` exactly where each has a number of its own.
     pub fn twice(&self) -> Option<i64>
-        ensures { MatchOption result ((k : ℤ) → HasTwice self.now k → ⊥) (HasTwice self.now) }
+        ensures { MatchOption result ((k : ℤ) → StandsTwice self.now k → ⊥) (StandsTwice self.now) }
     {
         for at in 1..self.pairs.len() {
             let k = self.pairs[at].0;

@@ -91,23 +91,23 @@ fn long_commands_and_faults(rt: HostRuntime) -> Result<(), Fail> {
         ),
         (
             &definition,
-            "FntDef(Def { k: 7, checksum: 1, size: 655360, design: -1, name: [97, 98, 99], area: 1 }) 19",
+            "FntDef(Def { k: 7, checksum: 1, size: 655360, design: -1, area: 1, name: [97, 98, 99] }) 19",
         ),
         (
             &[244, 1, 0, 0, 0, 0, 1, 0, 0, 0, 2, 0, 0, 0, 3, 0, 1, 97, 9],
-            "FntDef(Def { k: 256, checksum: 1, size: 2, design: 3, name: [97], area: 0 }) 18",
+            "FntDef(Def { k: 256, checksum: 1, size: 2, design: 3, area: 0, name: [97] }) 18",
         ),
         (
             &[
                 245, 255, 0, 0, 128, 0, 0, 0, 0, 0, 0, 2, 0, 0, 0, 3, 1, 0, 97,
             ],
-            "FntDef(Def { k: 16711680, checksum: 2147483648, size: 2, design: 3, name: [97], area: 1 }) 19",
+            "FntDef(Def { k: 16711680, checksum: 2147483648, size: 2, design: 3, area: 1, name: [97] }) 19",
         ),
         (
             &[
                 246, 255, 255, 255, 255, 0, 0, 0, 1, 0, 0, 0, 2, 0, 0, 0, 3, 0, 0,
             ],
-            "FntDef(Def { k: -1, checksum: 1, size: 2, design: 3, name: [], area: 0 }) 19",
+            "FntDef(Def { k: -1, checksum: 1, size: 2, design: 3, area: 0, name: [] }) 19",
         ),
         (
             &pre,
@@ -160,14 +160,19 @@ fn passes_over_plain_commands(rt: HostRuntime) -> Result<(), Fail> {
 
 #[test]
 fn numbers_of_fonts(rt: HostRuntime) -> Result<(), Fail> {
-    let mut numbers = FontNumbers::new(rt.alloc());
-    let pushed = [(5, true), (-1, true), (5, false), (1 << 40, true)];
-    for (k, new) in pushed {
-        assert_eq!(rt; numbers.push(k)?, new);
-    }
-    let places = [(5, Some(0)), (-1, Some(1)), (1 << 40, Some(2)), (0, None)];
+    let index = NumberIndex::new(vec![in rt.alloc(); (5, 0), (-1, 1), (1 << 40, 2), (0, 3)]?);
+    assert_eq!(rt; index.twice(), None);
+    let places = [
+        (5, Some(0)),
+        (-1, Some(1)),
+        (1 << 40, Some(2)),
+        (0, Some(3)),
+        (7, None),
+    ];
     for (k, place) in places {
-        assert_eq!(rt; numbers.place(k), place);
+        assert_eq!(rt; index.place(k), place);
     }
+    let index = NumberIndex::new(vec![in rt.alloc(); (3, 0), (5, 1), (3, 2)]?);
+    assert_eq!(rt; index.twice(), Some(3));
     Ok(())
 }

@@ -96,8 +96,8 @@ key_named num den size (x ∷ ls) l a (zero, h, e) =
     subst (λ (f : LocalFont). (if int_eq x.k f.k then (local_named num den size x).key else key_in (map (local_named num den size) ls) f.k) ≡ (local_named num den size f).key) e (rw (same_int x.k) refl)
 key_named num den size (x ∷ ls) l a (suc n, h, e) =
     let member : Contains ls l = (n, omega (arith, h), e) in
-    let other : int_eq x.k l.k ≡ false = other_int x.k l.k (λ s. a.0 (subst (λ (z : ℤ). Has ls z) (sym s) (has_at ls l member))) in
-    rw other (key_named num den size ls l a.1 member)
+    let other : int_eq x.k l.k ≡ false = other_int x.k l.k (λ s. a l.k (inl (s, has_at ls l member))) in
+    rw other (key_named num den size ls l (λ k t. a k (inr t)) member)
 
 -- the key of a local font is the one that its number names
 pub key_number : (set : FontSet) (id : ℕ) (vf : VirtualFont) (l : LocalFont) (k : ℤ) → vf_in (state_at set id) ≡ Some vf → IsFit vf → Contains vf.locals l → l.k ≡ k
@@ -139,7 +139,7 @@ head_number [] l k a f s m num den size = absurd cc
 head_number (x ∷ ls) l k a f s (zero, h, e) num den size = ap (λ (y : LocalFont). Some (local_named num den size y)) e
 head_number (x ∷ ls) l k a f s (suc n, h, e) num den size =
     let same : x.k ≡ k = cc in
-    absurd (a.0 (subst (λ (z : ℤ). Has ls z) (s ∙ sym same) (has_at ls l (n, omega (arith, h), e))))
+    absurd (a k (inl (same, subst (λ (z : ℤ). Has ls z) s (has_at ls l (n, omega (arith, h), e)))))
 
 pub bad_first : (set : FontSet) (id : ℕ) (vf : VirtualFont) (k : ℤ) (parts : FontKeyParts) → vf_in (state_at set id) ≡ Some vf → IsFit vf → first_number vf.locals ≡ Some k → BadNumber set id k parts → BadFirst set id parts
 bad_first set id vf k parts e f g b =

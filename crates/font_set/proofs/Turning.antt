@@ -6,7 +6,6 @@ use Rattle.dvi_ops.specs.Command.{Command}
 use Rattle.dvi_ops.specs.Command.Command.{Set, Put, Fnt}
 use Rattle.dvi_ops.specs.Placed.{Placed, Lexes}
 use Rattle.dvi_ops.specs.Spelling.{Spell}
-use Rattle.dvi_ops.specs.View.{NoSpelling}
 use Rattle.dvi_ops.specs.Laws.{OneSpelling}
 use Rattle.font_set.specs.Key.{IsKey}
 use Rattle.font_set.specs.Fonts.{FontSet}
@@ -24,11 +23,6 @@ use Rattle.font_set.specs.declared.turn.Does.TheVariants as does
 use Rattle.font_set.specs.declared.turn.Turn.{Turn}
 use Rattle.font_set.specs.declared.fault.LoadFault.{LoadFault}
 use Rattle.font_set.specs.declared.fault.LoadFault.TheVariants as load
-
--- where commands follow, the next one can be read
-pub can_read : (bytes : List ℕ) (from at : ℕ) (rest : List Placed) → at < length bytes → Lexes from (drop at bytes) rest → NoSpelling bytes at → ⊥
-can_read bytes from at [] h l none = omega (arith, length-drop at bytes, ap length l)
-can_read bytes from at (c ∷ cs) h l none = none c.command l.1 l.2 l.3 l.4
 
 -- the first command of the rest is the one that is spelled there
 lexed_next : OneSpelling → (bytes : List ℕ) (from at end : ℕ) (cmd : Command) (rest : List Placed) → at < end → end ≤ length bytes → Spell cmd (slice_range bytes at end) → Lexes (from + at) (drop at bytes) rest → Next from at end bytes rest

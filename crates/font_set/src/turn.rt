@@ -14,7 +14,7 @@ use crate::fault::{FontFault, LoadFault};
 use crate::fonts::Fonts;
 use dv_base::{FontId, Spot};
 use dvi_doc::{Doc, FontKey};
-use dvi_ops::{Cmd, next_cmd, one_spelling};
+use dvi_ops::{Cmd, command_at, one_spelling};
 use std::marker::Model;
 
 /// What a command asks of the fonts of its frame.
@@ -93,10 +93,8 @@ fn read(bytes: &[u8], at: usize) -> (Asked, usize)
     ensures within { result.1 ≤ length bytes.now }
     ensures command { (cmd : Command) × Spell cmd (slice_range bytes.now at result.1) × IsAsked cmd result.0 }
 {
-    match next_cmd(bytes, at) {
-        Ok((cmd, next)) => (asked_by(&cmd), next),
-        Err(_) => unreachable!(),
-    }
+    let (cmd, next) = command_at(bytes, at);
+    (asked_by(&cmd), next)
 }
 
 impl Fonts {

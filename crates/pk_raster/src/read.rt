@@ -14,11 +14,17 @@ use crate::fault::PkFault;
 use crate::glyph::{bitmap_bytes, draw, read_sizes, sizes_len};
 use crate::part::{BodyPart, CharacterPacket, next_part};
 use crate::pk::Pk;
-use dv_base::unsigned;
+use dv_base::Cursor;
 use std::alloc::Global;
 
 /// A bitmap of more bytes isn't kept.
 const MOST_BYTES: u64 = 65_535;
+
+/// The flag byte that begins the preamble.
+const PRE: u8 = 247;
+
+/// The version of the format.
+const ID: u8 = 89;
 
 /// The flag byte that ends the body.
 const POST: u8 = 245;
@@ -30,14 +36,19 @@ const NOP: u8 = 246;
 fn read_preamble(bytes: &[u8]) -> Option<(u32, usize)>
     ensures { MatchOption result (HasPreamble bytes.now → ⊥) (λ r. HasPreamble bytes.now × (r.0 ≡ checksum_of bytes.now) × (r.1 ≡ body_at bytes.now)) }
 {
-    if bytes.len() < 19 || bytes[0] != 247 || bytes[1] != 89 {
+    let mut cursor = Cursor::new(bytes);
+    let first = cursor.u8()?;
+    let id = cursor.u8()?;
+    let comment = cursor.u8()?;
+    if first != PRE || id != ID {
         return None;
     }
-    let comment = bytes[2] as usize;
-    if bytes.len() < 19 + comment {
-        return None;
-    }
-    Some((unsigned(bytes, 7 + comment, 4), 19 + comment))
+    cursor.take(comment as usize)?;
+    let _design = cursor.u32()?;
+    let checksum = cursor.u32()?;
+    let _across = cursor.u32()?;
+    let _down = cursor.u32()?;
+    Some((checksum, cursor.place()))
 }
 
 /// The fault of the file where the raster of a code fails.

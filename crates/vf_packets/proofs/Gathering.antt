@@ -9,7 +9,7 @@ use Rattle.std.proofs.lemmas.Bool.Decides.{nat_tests}
 use Rattle.dvi_ops.specs.Command.{Definition}
 use Rattle.dvi_ops.specs.Laws.{OneSpelling}
 use Rattle.vf_packets.specs.Programs.{IsProgram}
-use Rattle.vf_packets.specs.Font.{VirtualFont, LocalFont, entry}
+use Rattle.vf_packets.specs.Font.{VirtualFont, LocalFont, Apart, entry}
 use Rattle.vf_packets.specs.Packets.{CharacterPacket, Packets, packet_at}
 use Rattle.vf_packets.specs.PacketFaults.{IsShortPacket}
 use Rattle.vf_packets.specs.File.{IsDefinitionByte, IsVf, kept, times, Tells, checksum_of}
@@ -374,9 +374,9 @@ fill_is bytes at n e =
           ap (λ j. get_or bytes j 0) (sym s) ∙ sym (get_or-drop at bytes (i - at) 0) ∙ ap (λ xs. get_or xs (i - at) 0) e ∙ at_fill n (i - at) (omega (arith, l, h, k)));
     }
 
-pub whole_file : (bytes : List ℕ) (locals : List LocalFont) (middle : ℕ) (table : List (Option (List ℕ))) (at checksum : ℕ) → LocalsTo bytes locals middle → PacketsTo bytes middle table at → OnlyFill bytes at → checksum ≡ checksum_of bytes →
+pub whole_file : (bytes : List ℕ) (locals : List LocalFont) (middle : ℕ) (table : List (Option (List ℕ))) (at checksum : ℕ) → LocalsTo bytes locals middle → Apart locals → PacketsTo bytes middle table at → OnlyFill bytes at → checksum ≡ checksum_of bytes →
     IsVf bytes (record { checksum = checksum; locals = locals; packets = table })
-whole_file bytes locals middle table at checksum l r f c = record {
+whole_file bytes locals middle table at checksum l apart r f c = record {
   preamble = l.read.preamble;
   checksum = c;
   definitions = l.definitions;
@@ -387,7 +387,7 @@ whole_file bytes locals middle table at checksum l r f c = record {
   body = subst (Packets (drop middle bytes) r.packets) (tail_is bytes at f) r.read;
   locals = l.are;
   named = l.named;
-  apart = l.apart;
+  apart = subst Apart l.are apart;
   told = r.told;
 }
 

@@ -1,8 +1,8 @@
 -- The definitions of a file, one after another.
-use Rattle.std.proofs.Common.{◌≡◌, ℕ, ℤ, ◌+◌, ◌<◌, ◌≤◌, ◌⊎◌, inl, inr, ⊎_elim, refl, sym, ◌∙◌, ap, subst, arith, List, [], ◌∷◌, ◌++◌, length, drop, get_or, slice_index}
+use Rattle.std.proofs.Common.{◌≡◌, ℕ, ℤ, ◌+◌, ◌<◌, ◌≤◌, inl, inr, ⊎_elim, refl, sym, ◌∙◌, ap, subst, arith, List, [], ◌∷◌, ◌++◌, length, length-append, length-drop, drop, get_or, slice_index}
 use Rattle.std.specs.Prelude.{map, replicate, slice_range, Option, None, Some}
 use Rattle.std.specs.List.{AllByRecursion}
-use Rattle.std.proofs.lemmas.List.{append_cancel_left, append-nil, drop_all, get_or-drop}
+use Rattle.std.proofs.lemmas.List.{append_cancel_left, append-nil, append_assoc, drop_all, drop_at, drop-drop, get_or-drop}
 use Rattle.std.proofs.lemmas.Bool.{cases_lt}
 use Rattle.dvi_ops.specs.Command.{Command, Definition}
 use Rattle.dvi_ops.specs.Command.Command.{FntDef}
@@ -10,11 +10,12 @@ use Rattle.dvi_ops.specs.Spelling.{Spell, RunsPast}
 use Rattle.dvi_ops.specs.Laws.{OneSpelling}
 use Rattle.dvi_ops.specs.View.{NoSpelling}
 use Rattle.dv_base.specs.FontName.{IsFontName}
-use Rattle.vf_packets.specs.Font.{LocalFont, VirtualFont, Has, Apart}
+use Rattle.dvi_ops.specs.Numbered.{HasTwice}
+use Rattle.vf_packets.specs.Font.{LocalFont, VirtualFont, Has, numbers_of}
 use Rattle.vf_packets.specs.Packets.{CharacterPacket, Packets}
 use Rattle.vf_packets.specs.File.{HasPreamble, body_at, IsDefinitionByte, Definitions, local_of, IsVf}
-use Rattle.vf_packets.specs.LocalFaults.{IsNotLocal}
 use Rattle.vf_packets.specs.Faults.{DefinedTo, RefusesFile, LocalsTo, NoDefinitionAt}
+use Rattle.vf_packets.specs.LocalFaults.{IsTwice}
 use Rattle.vf_packets.specs.declared.fault.VfFault.{VfFault}
 use Rattle.vf_packets.specs.declared.fault.VfFault.TheVariants as fault
 use Rattle.vf_packets.proofs.Stepping.{parted}
@@ -87,21 +88,52 @@ definition_next bytes at (d ∷ ds) end b n s = (d, ds, s.0, s.1, refl, s.2, s.4
 
 -- numbers
 
-has_push : (ls : List LocalFont) (l : LocalFont) (k : ℤ) → Has (ls ++ l ∷ []) k → Has ls k ⊎ (l.k ≡ k)
-has_push [] l k h = ⊎_elim (λ e. inr e) (λ g. elim g [ ]) h
-has_push (m ∷ ls) l k h = ⊎_elim (λ e. inl (inl e)) (λ g. ⊎_elim (λ a. inl (inr a)) (λ b. inr b) (has_push ls l k g)) h
+-- the first of the definitions that has a number
+split_once : (ds : List Definition) (k : ℤ) → Has (map local_of ds) k → (xs : List Definition) × (d : Definition) × (ys : List Definition) × (ds ≡ xs ++ d ∷ ys) × (d.k ≡ k)
+split_once [] k h = absurd h
+split_once (d ∷ ds) k h =
+    ⊎_elim
+    (λ e. ([], d, ds, refl, e))
+    (λ g. (let r = split_once ds k g in (d ∷ r.0, r.1, r.2, ap (λ (es : List Definition). d ∷ es) r.3, r.4)))
+    h
 
-has_middle : (ls ms : List LocalFont) (l : LocalFont) → Has (ls ++ l ∷ ms) l.k
-has_middle [] ms l = inl refl
-has_middle (m ∷ ls) ms l = inr (has_middle ls ms l)
+-- a definition with a number that one before it has
+split_twice : (ds : List Definition) (k : ℤ) → HasTwice (numbers_of (map local_of ds)) k → (xs : List Definition) × (d : Definition) × (ys : List Definition) × (ds ≡ xs ++ d ∷ ys) × (d.k ≡ k) × Has (map local_of xs) k
+split_twice [] k h = absurd h
+split_twice (d ∷ ds) k h =
+    ⊎_elim
+    (λ g. (let r = split_once ds k g.1 in (d ∷ r.0, r.1, r.2, ap (λ (es : List Definition). d ∷ es) r.3, r.4, inl g.0)))
+    (λ g. (let r = split_twice ds k g in (d ∷ r.0, r.1, r.2, ap (λ (es : List Definition). d ∷ es) r.3, r.4, inr r.5)))
+    h
 
-apart_push : (ls : List LocalFont) (l : LocalFont) → Apart ls → (Has ls l.k → ⊥) → Apart (ls ++ l ∷ [])
-apart_push [] l a n = ((λ h. elim h [ ]), tt)
-apart_push (m ∷ ls) l a n = ((λ h. ⊎_elim (λ g. a.0 g) (λ e. n (inl (sym e))) (has_push ls l m.k h)), apart_push ls l a.1 (λ h. n (inr h)))
+has_longer : (ds es : List Definition) (k : ℤ) → Has (map local_of ds) k → Has (map local_of (ds ++ es)) k
+has_longer [] es k h = absurd h
+has_longer (d ∷ ds) es k h = ⊎_elim (λ e. inl e) (λ g. inr (has_longer ds es k g)) h
 
-apart_middle : (ls ms : List LocalFont) (l : LocalFont) → Apart (ls ++ l ∷ ms) → Has ls l.k → ⊥
-apart_middle [] ms l a h = elim h [ ]
-apart_middle (m ∷ ls) ms l a h = ⊎_elim (λ e. (let P : ℤ → Type 0 = λ v. Has (ls ++ l ∷ ms) v in a.0 (subst P (sym e) (has_middle ls ms l)))) (λ g. apart_middle ls ms l a.1 g) h
+twice_longer : (ds es : List Definition) (k : ℤ) → HasTwice (numbers_of (map local_of ds)) k → HasTwice (numbers_of (map local_of (ds ++ es))) k
+twice_longer [] es k h = absurd h
+twice_longer (d ∷ ds) es k h = ⊎_elim (λ e. inl (e.0, has_longer ds es k e.1)) (λ g. inr (twice_longer ds es k g)) h
+
+-- the definitions up to one of them
+definitions_front : (xs : List ℕ) (ds : List Definition) (d : Definition) (es : List Definition) (rest : List ℕ) → Definitions xs (ds ++ d ∷ es) rest
+    → (front : List ℕ) × (behind : List ℕ) × (xs ≡ front ++ behind) × Definitions xs (ds ++ d ∷ []) behind
+definitions_front xs [] d es rest s = (s.0, s.1, s.2, (s.0, s.1, s.2, s.3, s.4, refl))
+definitions_front xs (c ∷ ds) d es rest s =
+    let r = definitions_front s.1 ds d es rest s.5 in
+    (s.0 ++ r.0, r.1, s.2 ∙ ap (λ (ys : List ℕ). s.0 ++ ys) r.2 ∙ sym (append_assoc s.0 r.0 r.1), (s.0, s.1, s.2, s.3, s.4, r.3))
+
+defined_front : (bytes : List ℕ) (ds : List Definition) (d : Definition) (es all : List Definition) (at : ℕ) → all ≡ ds ++ d ∷ es → DefinedTo bytes all at → (to : ℕ) × DefinedTo bytes (ds ++ d ∷ []) to
+defined_front bytes ds d es all at e r =
+    let body = body_at bytes in
+    let f = definitions_front (drop body bytes) ds d es (drop at bytes) (subst (λ (l : List Definition). Definitions (drop body bytes) l (drop at bytes)) e r.read) in
+    let behind : drop (body + length f.0) bytes ≡ f.1 = sym (drop-drop (length f.0) body bytes) ∙ ap (drop (length f.0)) f.2 ∙ drop_at f.0 f.1 (length f.0) refl in (
+      body + length f.0,
+      record {
+        preamble = r.preamble;
+        within = (let w = r.preamble.whole in omega (arith, w, ap length f.2, length-append f.0 f.1, length-drop body bytes));
+        read = subst (λ (l : List ℕ). Definitions (drop body bytes) (ds ++ d ∷ []) l) (sym behind) f.3;
+      },
+    )
 
 pub map-append : (ds es : List Definition) → map local_of (ds ++ es) ≡ map local_of ds ++ map local_of es
 map-append [] es = refl
@@ -125,16 +157,13 @@ defined_more bytes ds at to d r h l b s = record {
 
 -- a definition that is taken
 pub local_more : (bytes : List ℕ) (locals new : List LocalFont) (at to : ℕ) (d : Definition) → LocalsTo bytes locals at → at < to → to ≤ length bytes → IsDefinitionByte (slice_index bytes at) → Spell (FntDef d) (slice_range bytes at to) →
-    new ≡ locals ++ local_of d ∷ [] → (Has locals d.k → ⊥) → IsFontName d.name → LocalsTo bytes new to
-local_more bytes locals new at to d r h l b s is n name =
-    let H : List LocalFont → Type 0 = λ ls. Has ls d.k → ⊥ in
-    record {
-      definitions = r.definitions ++ d ∷ [];
-      read = defined_more bytes r.definitions at to d r.read h l b s;
-      are = is ∙ ap (λ ls. ls ++ local_of d ∷ []) r.are ∙ sym (map-append r.definitions (d ∷ []));
-      named = named_push r.definitions d r.named name;
-      apart = subst Apart (sym (map-append r.definitions (d ∷ []))) (apart_push (map local_of r.definitions) (local_of d) r.apart (subst H r.are n));
-    }
+    new ≡ locals ++ local_of d ∷ [] → IsFontName d.name → LocalsTo bytes new to
+local_more bytes locals new at to d r h l b s is name = record {
+  definitions = r.definitions ++ d ∷ [];
+  read = defined_more bytes r.definitions at to d r.read h l b s;
+  are = is ∙ ap (λ ls. ls ++ local_of d ∷ []) r.are ∙ sym (map-append r.definitions (d ∷ []));
+  named = named_push r.definitions d r.named name;
+}
 
 -- a file has the definition that is read
 pub has_definition : OneSpelling → (bytes : List ℕ) (ds : List Definition) (at to : ℕ) (d : Definition) → DefinedTo bytes ds at → at < to → IsDefinitionByte (slice_index bytes at) → Spell (FntDef d) (slice_range bytes at to) →
@@ -145,30 +174,39 @@ has_definition one bytes ds at to d r h b s font x =
     let o = one (slice_range bytes at to) q.2 (FntDef d) (FntDef q.0) (drop to bytes) q.3 s q.6 (sym (parted bytes at to (omega (arith, h))) ∙ q.5) in
     (q.1, n.joined ∙ ap (λ es. ds ++ es) (q.4 ∙ ap (λ e. e ∷ q.1) (sym (same_definition d q.0 o.1))))
 
--- a definition that is refused
-pub not_local : OneSpelling → (bytes : List ℕ) (locals : List LocalFont) (at to : ℕ) (d : Definition) (e : VfFault) → LocalsTo bytes locals at → at < to → to ≤ length bytes → IsDefinitionByte (slice_index bytes at) → Spell (FntDef d) (slice_range bytes at to) →
-    IsNotLocal locals d e → RefusesFile bytes e
-not_local one bytes locals at to d (fault.FontTwice k) r h l b s n =
-    let H : List LocalFont → Type 0 = λ ls. Has ls d.k in
-    let twice = subst H r.are n.1 in
-    record {
-      says = (r.definitions, d, to, defined_more bytes r.definitions at to d r.read h l b s, n.0, twice);
-      none = λ _ font x. (let q = has_definition one bytes r.definitions at to d r.read h b s font x in
-          apart_middle (map local_of r.definitions) (map local_of q.0) (local_of d) (subst Apart (ap (map local_of) q.1 ∙ map-append r.definitions (d ∷ q.0)) x.apart) twice);
-    }
-not_local one bytes locals at to d (fault.BadName k) r h l b s n = record {
-  says = (r.definitions, d, to, defined_more bytes r.definitions at to d r.read h l b s, n.0, n.1);
+-- a definition with a name that no font may have
+pub not_named : OneSpelling → (bytes : List ℕ) (locals : List LocalFont) (at to : ℕ) (d : Definition) → LocalsTo bytes locals at → at < to → to ≤ length bytes → IsDefinitionByte (slice_index bytes at) → Spell (FntDef d) (slice_range bytes at to) →
+    (IsFontName d.name → ⊥) → RefusesFile bytes (fault.BadName d.k)
+not_named one bytes locals at to d r h l b s n = record {
+  says = (r.definitions, d, to, defined_more bytes r.definitions at to d r.read h l b s, refl, n);
   none = λ _ font x. (let q = has_definition one bytes r.definitions at to d r.read h b s font x in
       let N : List Definition → Type 0 = λ es. AllByRecursion (λ c. IsFontName c.name) es in
-      n.1 (named_middle r.definitions q.0 d (subst N q.1 x.named)));
+      n (named_middle r.definitions q.0 d (subst N q.1 x.named)));
 }
-not_local one bytes locals at to d fault.OutOfMemory r h l b s n = record { says = tt; none = λ ne. absurd (ne refl) }
-not_local one bytes locals at to d fault.BadPreamble r h l b s n = absurd n
-not_local one bytes locals at to d (fault.BadOrder place) r h l b s n = absurd n
-not_local one bytes locals at to d (fault.Short place) r h l b s n = absurd n
-not_local one bytes locals at to d (fault.BadOp c) r h l b s n = absurd n
-not_local one bytes locals at to d (fault.Twice c) r h l b s n = absurd n
-not_local one bytes locals at to d fault.NoPost r h l b s n = absurd n
+
+-- two definitions with one number
+pub not_apart : OneSpelling → (bytes : List ℕ) (locals : List LocalFont) (at : ℕ) (k : ℤ) → LocalsTo bytes locals at → HasTwice (numbers_of locals) k → RefusesFile bytes (fault.FontTwice k)
+not_apart one bytes locals at k r h =
+    let twice : HasTwice (numbers_of (map local_of r.definitions)) k = subst (λ (ls : List LocalFont). HasTwice (numbers_of ls) k) r.are h in
+    let p = split_twice r.definitions k twice in
+    let q = defined_front bytes p.0 p.1 p.2 r.definitions at p.3 r.read in
+    record {
+      says = (p.0, p.1, q.0, q.1, sym p.4, subst (λ (z : ℤ). Has (map local_of p.0) z) (sym p.4) p.5);
+      none = λ _ font x. (let n = behind one bytes r.definitions at r.read font x in
+          x.apart k (subst (λ (ds : List Definition). HasTwice (numbers_of (map local_of ds)) k) (sym n.joined) (twice_longer r.definitions n.more k twice)));
+    }
+
+-- what is wrong with the numbers of all of them
+pub not_taken : OneSpelling → (bytes : List ℕ) (locals : List LocalFont) (at : ℕ) (numbers : List ℤ) (e : VfFault) → LocalsTo bytes locals at → numbers_of locals ≡ numbers → IsTwice numbers e → RefusesFile bytes e
+not_taken one bytes locals at numbers (fault.FontTwice k) r same h = not_apart one bytes locals at k r (subst (λ (ns : List ℤ). HasTwice ns k) (sym same) h)
+not_taken one bytes locals at numbers fault.OutOfMemory r same h = record { says = tt; none = λ ne. absurd (ne refl) }
+not_taken one bytes locals at numbers fault.BadPreamble r same h = absurd h
+not_taken one bytes locals at numbers (fault.BadOrder place) r same h = absurd h
+not_taken one bytes locals at numbers (fault.Short place) r same h = absurd h
+not_taken one bytes locals at numbers (fault.BadOp c) r same h = absurd h
+not_taken one bytes locals at numbers (fault.Twice c) r same h = absurd h
+not_taken one bytes locals at numbers (fault.BadName k) r same h = absurd h
+not_taken one bytes locals at numbers fault.NoPost r same h = absurd h
 
 -- a definition that runs past the end
 pub short_definition : OneSpelling → (bytes : List ℕ) (locals : List LocalFont) (at : ℕ) → LocalsTo bytes locals at → IsDefinitionByte (slice_index bytes at) → RunsPast bytes at → NoSpelling bytes at → RefusesFile bytes (fault.Short at)
@@ -188,7 +226,6 @@ locals_start bytes locals at e pre a =
       read = record { preamble = pre; within = (let w = pre.whole in omega (arith, a, w)); read = subst D (sym a) refl };
       are = e;
       named = tt;
-      apart = tt;
     }
 
 -- where no definition begins, the packets of a file begin

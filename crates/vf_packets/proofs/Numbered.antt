@@ -1,52 +1,56 @@
 -- Local fonts by their numbers.
-use Rattle.std.proofs.Common.{◌≡◌, ℕ, ℤ, zero, suc, ◌<◌, inl, inr, ⊎_elim, refl, sym, ◌∙◌, ap, subst, arith, List, [], ◌∷◌, ◌++◌, length, get_or}
+use Rattle.std.proofs.Common.{◌≡◌, ℕ, ℤ, zero, suc, ◌<◌, ◌+◌, refl, sym, ◌∙◌, ap, arith, List, [], ◌∷◌, ◌++◌, length, take, get_or}
 use Rattle.std.specs.Prelude.{map}
 use Rattle.std.specs.List.{Contains}
-use Rattle.dvi_ops.specs.FontNumbers.{StandsAt}
-use Rattle.vf_packets.specs.Font.{LocalFont, number_of, Has}
+use Rattle.std.specs.List.Sorted.{IsPermutation}
+use Rattle.std.proofs.lemmas.List.{length-map, map-append, take_more}
+use Rattle.dvi_ops.specs.Numbered.{numbered}
+use Rattle.dvi_ops.proofs.Numbering as index
+use Rattle.vf_packets.specs.Font.{LocalFont, number_of, numbers_of}
 use Rattle.vf_packets.specs.LocalViews.{local_view}
 use Rattle.vf_packets.specs.declared.local.Local.{Local}
 
-contains_has : (ls : List LocalFont) (k : ℤ) (i : ℕ) → i < length (map number_of ls) → get_or (map number_of ls) i k ≡ k → Has ls k
-contains_has [] k i l e = absurd (omega (arith, l))
-contains_has (f ∷ ls) k zero l e = inl e
-contains_has (f ∷ ls) k (suc i) l e = inr (contains_has ls k i (omega (arith, l)) e)
+-- the index of the numbers of fonts
+abbrev pub IsIndex : List Local → List (ℤ × ℕ) → Type 0
+IsIndex fonts pairs = IsPermutation (numbered 0 (numbers_of (map local_view fonts))) pairs
 
-has_contains : (ls : List LocalFont) (k : ℤ) → Has ls k → Contains (map number_of ls) k
-has_contains [] k h = elim h [ ]
-has_contains (f ∷ ls) k h = ⊎_elim (λ e. (0, omega arith, e)) (λ g. (let c = has_contains ls k g in (suc c.0, (let l = c.1 in omega (arith, l)), c.2))) h
+number_at : (fonts : List Local) (place : ℕ) (f : Local) (d : ℤ) → place < length fonts → get_or (numbers_of (map local_view fonts)) place d ≡ (get_or fonts place f).k
+number_at [] place f d h = absurd (omega (arith, h))
+number_at (x ∷ fonts) zero f d h = refl
+number_at (x ∷ fonts) (suc place) f d h = number_at fonts place f d (omega (arith, h))
 
--- what a look-up among the numbers finds
-pub is_one : (ls : List LocalFont) (ns : List ℤ) (k : ℤ) → ns ≡ map number_of ls → Contains ns k → Has ls k
-is_one ls ns k e h = (let c = subst (λ (l : List ℤ). Contains l k) e h in contains_has ls k c.0 c.1 c.2)
-
-pub is_none : (ls : List LocalFont) (ns : List ℤ) (k : ℤ) → ns ≡ map number_of ls → (Contains ns k → ⊥) → Has ls k → ⊥
-is_none ls ns k e n h = n (subst (λ (l : List ℤ). Contains l k) (sym e) (has_contains ls k h))
-
-length_map : (ls : List LocalFont) → length (map number_of ls) ≡ length ls
-length_map [] = refl
-length_map (l ∷ ls) = ap suc (length_map ls)
-
-number_at : (ls : List LocalFont) (i : ℕ) (f : LocalFont) (k : ℤ) → i < length ls → get_or (map number_of ls) i k ≡ (get_or ls i f).k
-number_at [] i f k l = absurd (omega (arith, l))
-number_at (g ∷ ls) zero f k l = refl
-number_at (g ∷ ls) (suc i) f k l = number_at ls i f k (omega (arith, l))
-
--- the font at the place that a look-up finds
-pub found_at : (ls : List LocalFont) (ns : List ℤ) (k : ℤ) (i : ℕ) (f : LocalFont) → ns ≡ map number_of ls → StandsAt ns k i → f ≡ get_or ls i f → Contains ls f × (f.k ≡ k)
-found_at ls ns k i f e h g =
-    let l : i < length ls = (let q = h.0 in omega (arith, q, ap length e, length_map ls)) in
-    ((i, l, sym g), ap number_of g ∙ sym (number_at ls i f k l) ∙ sym (ap (λ (v : List ℤ). get_or v i k) e) ∙ h.1)
+-- the font that a pair names
+pub place_of : (fonts : List Local) (pairs : List (ℤ × ℕ)) (k : ℤ) (place : ℕ) → IsIndex fonts pairs → Contains pairs (k, place)
+    → (place < length fonts) × ((f : Local) → (get_or fonts place f).k ≡ k)
+place_of fonts pairs k place same h =
+    let p = index.place_of (numbers_of (map local_view fonts)) pairs k place same h in
+    let inside : place < length fonts = omega (arith, p.0, length-map (map local_view fonts) number_of, length-map fonts local_view) in
+    (inside, λ f. sym (number_at fonts place f k inside) ∙ p.1 k)
 
 -- the view of a font that stands at a place
-pub viewed : (fs : List Local) (i : ℕ) (f : Local) → f ≡ get_or fs i f → local_view f ≡ get_or (map local_view fs) i (local_view f)
-viewed [] i f e = refl
-viewed (g ∷ fs) zero f e = ap local_view e
-viewed (g ∷ fs) (suc i) f e = viewed fs i f e
+viewed : (fonts : List Local) (i : ℕ) (f : Local) → i < length fonts → f ≡ get_or fonts i f → get_or (map local_view fonts) i (local_view f) ≡ local_view f
+viewed [] i f l e = absurd (omega (arith, l))
+viewed (g ∷ fonts) zero f l e = ap local_view (sym e)
+viewed (g ∷ fonts) (suc i) f l e = viewed fonts i f (omega (arith, l)) e
 
-pub map-append : (f : Local → LocalFont) (xs ys : List Local) → map f (xs ++ ys) ≡ map f xs ++ map f ys
-map-append f [] ys = refl
-map-append f (x ∷ xs) ys = ap (λ ls. f x ∷ ls) (map-append f xs ys)
+pub font_found : (fonts : List Local) (pairs : List (ℤ × ℕ)) (k : ℤ) (place : ℕ) (f : Local) → IsIndex fonts pairs → Contains pairs (k, place) → f ≡ get_or fonts place f
+    → Contains (map local_view fonts) (local_view f) × (f.k ≡ k)
+font_found fonts pairs k place f same h e =
+    let s = place_of fonts pairs k place same h in
+    ((place, omega (arith, s.0, length-map fonts local_view), viewed fonts place f s.0 e), ap (λ (l : Local). l.k) e ∙ s.1 f)
+
+-- one font more
+pub numbered_more : (fonts : List Local) (i : ℕ) (f : Local) → i < length fonts → length (take i fonts) ≡ i
+    → numbered 0 (numbers_of (map local_view (take i fonts))) ++ ((get_or fonts i f).k, i) ∷ [] ≡ numbered 0 (numbers_of (map local_view (take (i + 1) fonts)))
+numbered_more fonts i f h long =
+    let so_far = map local_view (take i fonts) in
+    let font = get_or fonts i f in
+    index.numbered_more (numbers_of so_far) font.k i (length-map so_far number_of ∙ length-map (take i fonts) local_view ∙ long)
+    ∙ ap (λ (ns : List ℤ). numbered 0 ns)
+    (sym (map-append number_of so_far (local_view font ∷ [])) ∙ ap numbers_of (sym (map-append local_view (take i fonts) (font ∷ [])) ∙ ap (map local_view) (sym (take_more fonts i f h))))
+
+pub locals_more : (fonts old : List Local) (font : Local) (l : LocalFont) → fonts ≡ old ++ font ∷ [] → local_view font ≡ l → map local_view fonts ≡ map local_view old ++ l ∷ []
+locals_more fonts old font l e s = ap (map local_view) e ∙ map-append local_view old (font ∷ []) ∙ ap (λ (x : LocalFont). map local_view old ++ x ∷ []) s
 
 -- a font by its fields
 pub built : (k k' : ℤ) (checksum : ℕ) (s s' d d' : ℤ) (n n' : List ℕ) → k ≡ k' → s ≡ s' → d ≡ d' → n ≡ n' →

@@ -5,7 +5,7 @@ use Rattle.dvi_ops.specs.Command.{Definition}
 use Rattle.dvi_ops.specs.Spelling.{RunsPast}
 use Rattle.dv_base.specs.FontName.{IsFontName}
 use Rattle.vf_packets.specs.Programs.{IsProgram}
-use Rattle.vf_packets.specs.Font.{LocalFont, VirtualFont, Has, Apart}
+use Rattle.vf_packets.specs.Font.{LocalFont, VirtualFont, Has}
 use Rattle.vf_packets.specs.Packets.{CharacterPacket, Packets}
 use Rattle.vf_packets.specs.File.{HasPreamble, body_at, IsDefinitionByte, Definitions, local_of, kept, times, Tells, IsVf}
 use Rattle.vf_packets.specs.PacketFaults.{IsShortPacket}
@@ -67,13 +67,12 @@ pub record RefusesFile (bytes : List ℕ) (e : VfFault) : Type 0 where
   pub says : VfFaultIs bytes e
   pub none : e ≢ fault.OutOfMemory → NoFont bytes
 
--- The local fonts up to a place.
+-- The local fonts up to a place, each of which has a name that a font may have.
 pub record LocalsTo (bytes : List ℕ) (locals : List LocalFont) (at : ℕ) : Type 0 where
   pub definitions : List Definition
   pub read : DefinedTo bytes definitions at
   pub are : locals ≡ map local_of definitions
   pub named : AllByRecursion (λ d. IsFontName d.name) definitions
-  pub apart : Apart (map local_of definitions)
 
 -- No definition begins at the place.
 abbrev pub NoDefinitionAt : List ℕ → ℕ → Type 0

@@ -1,5 +1,6 @@
 -- What a VF file tells.
-use Rattle.std.specs.Prelude.{◌≡◌, ℕ, ℤ, List, [], ◌∷◌, Option, None, Some, ◌⊎◌, slice_index_or}
+use Rattle.std.specs.Prelude.{ℕ, ℤ, List, [], ◌∷◌, Option, None, Some, slice_index_or, map}
+use Rattle.dvi_ops.specs.Numbered as numbered
 
 -- A local font: its number in packets, its checksum, its size in parts of the virtual font's and its design size in points, both as
 -- fix_words, and its name with its area.
@@ -19,15 +20,17 @@ pub record VirtualFont : Type 0 where
 abbrev pub number_of : LocalFont → ℤ
 number_of l = l.k
 
+-- The numbers of fonts, in their order.
+abbrev pub numbers_of : List LocalFont → List ℤ
+numbers_of ls = map number_of ls
+
 -- One of the fonts has this number.
 abbrev pub Has : List LocalFont → ℤ → Type 0
-Has [] k = ⊥
-Has (l ∷ ls) k = (l.k ≡ k) ⊎ Has ls k
+Has ls k = numbered.Has (numbers_of ls) k
 
 -- No two of the fonts have one number.
 abbrev pub Apart : List LocalFont → Type 0
-Apart [] = Unit {0}
-Apart (l ∷ ls) = (Has ls l.k → ⊥) × Apart ls
+Apart ls = (k : ℤ) → numbered.HasTwice (numbers_of ls) k → ⊥
 
 -- The number of the first font.
 abbrev pub first_number : List LocalFont → Option ℤ

@@ -1,15 +1,19 @@
 //! The local fonts of a VF file, by number.
-ghost use Rattle.std.specs.Prelude.{◌≡◌, ◌++◌, [], ◌∷◌, IfErr, OnOk, MatchOption, map};
+ghost use Rattle.std.specs.Prelude.{◌≡◌, IfOk, IfErr, MatchOption, map};
 ghost use Rattle.std.specs.List.{Contains};
-ghost use Rattle.dvi_ops.specs.View.{def_view};
-ghost use Rattle.vf_packets.specs.Font.{LocalFont, Has, first_number};
+ghost use Rattle.std.specs.List.Sorted.{IsPermutation};
 ghost use Rattle.dv_base.specs.FontName.{IsFontName};
+ghost use Rattle.dvi_ops.specs.Numbered.{numbered};
+ghost use Rattle.dvi_ops.specs.View.{def_view};
+ghost use Rattle.vf_packets.specs.Font.{LocalFont, Has, Apart, first_number, numbers_of};
 ghost use Rattle.vf_packets.specs.File.{local_of};
+ghost use Rattle.vf_packets.specs.LocalFaults.{IsTwice};
+ghost use Rattle.vf_packets.specs.LocalViews.{local_view};
 
 use crate::fault::VfFault;
 use dv_base::{FileName, font_name};
-use dvi_ops::{Def, FontNumbers};
-use std::alloc::Global;
+use dvi_ops::{Def, NumberIndex};
+use std::alloc::{AllocError, Global};
 use std::marker::Model;
 
 /// A local font: `scale` is its size in parts of the virtual font's size, and `design` its design size in points, both as
@@ -23,70 +27,70 @@ pub struct Local {
     pub name: FileName,
 }
 
-/// Local fonts in the order of their definitions, each number once. The place of a number among the numbers is that of its font.
+/// The font of a definition; `None` exactly where no font may have the name.
+pub fn local_font(def: &Def<'_>) -> Option<Local>
+    ensures { MatchOption result (IsFontName (def_view def.now).name → ⊥) (λ font. IsFontName (def_view def.now).name × (local_view font ≡ local_of (def_view def.now))) }
+{
+    let name = font_name(def.name)?;
+    Some(Local {
+        k: def.k,
+        checksum: def.checksum,
+        scale: def.size,
+        design: def.design,
+        name,
+    })
+}
+
+/// Local fonts in the order of their definitions, each number once, and an index of their numbers.
 #[derive(Drop)]
 pub struct Locals {
     fonts: Vec<Local>,
-    numbers: FontNumbers,
+    index: NumberIndex,
 }
 
 impl Model for Locals {
-    ghost use Rattle.std.specs.Prelude.{◌≡◌, List, map};
-    ghost use Rattle.vf_packets.specs.Font.{LocalFont, number_of};
+    ghost use Rattle.std.specs.Prelude.{List, map};
+    ghost use Rattle.std.specs.List.Sorted.{IsPermutation};
+    ghost use Rattle.dvi_ops.specs.Numbered.{numbered};
+    ghost use Rattle.vf_packets.specs.Font.{LocalFont, numbers_of};
+    ghost use Rattle.vf_packets.specs.LocalViews.{local_view};
 
     ghost Value = { List LocalFont };
 
-    ghost use Rattle.vf_packets.specs.LocalViews.{local_view};
-
     ghost view = { λ l. map local_view l.fonts.items };
 
-    ghost invariant = { λ l. l.numbers ≡ map number_of (map local_view l.fonts.items) };
+    ghost invariant = { λ l. IsPermutation (numbered 0 (numbers_of (map local_view l.fonts.items))) l.index };
 }
 
-ghost use Rattle.vf_packets.specs.LocalViews.{local_view};
-ghost use Rattle.vf_packets.specs.LocalFaults.{IsNotLocal};
+/// The index of the numbers of fonts.
+fn index_of(alloc: Global, fonts: &[Local]) -> Result<NumberIndex, AllocError>
+    ensures { IfOk result (λ index. IsPermutation (numbered 0 (numbers_of (map local_view fonts.now))) index) }
+{
+    let mut pairs = Vec::new(alloc);
+    for (place, font) in fonts.iter().enumerate() {
+        pairs.push((font.k, place))?;
+    }
+    Ok(NumberIndex::new(pairs))
+}
 
 impl Locals {
-    /// No local fonts.
-    pub fn new(alloc: Global) -> Locals
-        ensures { result ≡ [] }
+    /// These fonts; a fault where two have one number, or there is no memory.
+    pub fn new(alloc: Global, fonts: Vec<Local>) -> Result<Locals, VfFault>
+        ensures found { IfOk result (λ locals. (locals ≡ map local_view fonts.items) × Apart locals) }
+        ensures fault { IfErr result (IsTwice (numbers_of (map local_view fonts.items))) }
     {
-        Locals {
-            fonts: Vec::new(alloc),
-            numbers: FontNumbers::new(alloc),
+        let index = index_of(alloc, &fonts)?;
+        if let Some(k) = index.twice() {
+            return Err(VfFault::FontTwice(k));
         }
-    }
-
-    /// Adds the font of a definition.
-    pub fn add(&mut self, def: &Def<'_>) -> Result<(), VfFault>
-        ensures added { OnOk result (self.new ≡ self.old ++ local_of (def_view def.now) ∷ []) }
-        ensures new { OnOk result (Has self.old def.now.k → ⊥) }
-        ensures named { OnOk result (IsFontName (def_view def.now).name) }
-        ensures err { IfErr result (IsNotLocal self.old (def_view def.now)) }
-    {
-        let Some(name) = font_name(def.name) else {
-            return Err(VfFault::BadName(def.k));
-        };
-        self.fonts.reserve(1)?;
-        let is_new = self.numbers.push(def.k)?;
-        if !is_new {
-            return Err(VfFault::FontTwice(def.k));
-        }
-        self.fonts.push_reserved(Local {
-            k: def.k,
-            checksum: def.checksum,
-            scale: def.size,
-            design: def.design,
-            name,
-        });
-        Ok(())
+        Ok(Locals { fonts, index })
     }
 
     /// The font of a number; `None` exactly where there is none.
     pub fn get(&self, k: i64) -> Option<&Local>
         ensures { MatchOption result (Has self.now k → ⊥) (λ font. Contains self.now (local_view font.now) × (font.now.k ≡ k)) }
     {
-        let place = self.numbers.place(k)?;
+        let place = self.index.place(k)?;
         Some(&self.fonts[place])
     }
 

@@ -4,20 +4,27 @@ ghost use Rattle.dvi_ops.specs.Command.{Definition};
 ghost use Rattle.dvi_ops.specs.Command.Command.{FntDef};
 ghost use Rattle.dvi_ops.specs.Spelling.{Spell, RunsPast};
 ghost use Rattle.dvi_ops.specs.View.{def_view, NoSpelling};
-ghost use Rattle.vf_packets.specs.Font.{VirtualFont};
+ghost use Rattle.vf_packets.specs.Font.{VirtualFont, Apart};
+ghost use Rattle.vf_packets.specs.LocalViews.{local_view};
 ghost use Rattle.vf_packets.specs.File.{IsVf, HasPreamble, body_at, checksum_of, IsDefinitionByte};
 ghost use Rattle.vf_packets.specs.Faults.{VfFaultIs, NoFont, RefusesFile, DefinedTo, LocalsTo, NoDefinitionAt, PacketsTo, EndsAt, OnlyFill};
 ghost use Rattle.vf_packets.specs.Slots.{packet_in, font_in, AreSlots, IsTaken};
 ghost use Rattle.vf_packets.specs.declared.fault.VfFault.TheVariants.{OutOfMemory, Short};
 
 use crate::fault::VfFault;
-use crate::local::Locals;
+use crate::local::{Local, Locals, local_font};
 use crate::packet::{LONG, next_packet};
 use crate::program::is_program;
 use crate::vf::{Slot, Span, Vf};
-use dv_base::unsigned;
+use dv_base::Cursor;
 use dvi_ops::{Cmd, Def, next_cmd, one_spelling};
 use std::alloc::Global;
+
+/// The byte that begins the preamble.
+const PRE: u8 = 247;
+
+/// The version of the format.
+const ID: u8 = 202;
 
 /// The byte that ends the packets and fills the file up.
 const POST: u8 = 248;
@@ -26,14 +33,17 @@ const POST: u8 = 248;
 fn read_preamble(bytes: &[u8]) -> Option<(u32, usize)>
     ensures { MatchOption result (HasPreamble bytes.now → ⊥) (λ r. HasPreamble bytes.now × (r.0 ≡ checksum_of bytes.now) × (r.1 ≡ body_at bytes.now)) }
 {
-    if bytes.len() < 11 || bytes[0] != 247 || bytes[1] != 202 {
+    let mut cursor = Cursor::new(bytes);
+    let first = cursor.u8()?;
+    let id = cursor.u8()?;
+    let comment = cursor.u8()?;
+    if first != PRE || id != ID {
         return None;
     }
-    let comment = bytes[2] as usize;
-    if bytes.len() < 11 + comment {
-        return None;
-    }
-    Some((unsigned(bytes, 3 + comment, 4), 11 + comment))
+    cursor.take(comment as usize)?;
+    let checksum = cursor.u32()?;
+    let _design = cursor.u32()?;
+    Some((checksum, cursor.place()))
 }
 
 /// Whether a definition begins with the byte.
@@ -59,19 +69,23 @@ fn next_definition(bytes: &[u8], at: usize) -> Option<(Def<'_>, usize)>
 }
 
 /// Takes the definition at a place, and answers the place behind it.
-fn take_definition(locals: &mut Locals, bytes: &[u8], at: usize) -> Result<usize, VfFault>
+fn take_definition(fonts: &mut Vec<Local>, bytes: &[u8], at: usize) -> Result<usize, VfFault>
     requires inside { at < length bytes.now }
     requires byte { IsDefinitionByte (slice_index bytes.now at) }
-    requires reached { LocalsTo bytes.now locals.old at }
+    requires reached { LocalsTo bytes.now (map local_view fonts.old.items) at }
     ensures further { IfOk result (λ next. at < next) }
-    ensures ok { IfOk result (λ next. LocalsTo bytes.now locals.new next) }
+    ensures ok { IfOk result (λ next. LocalsTo bytes.now (map local_view fonts.new.items) next) }
     ensures err { IfErr result (RefusesFile bytes.now) }
 {
     one_spelling();
     let Some((def, next)) = next_definition(bytes, at) else {
         return Err(VfFault::Short(at));
     };
-    locals.add(&def)?;
+    let Some(font) = local_font(&def) else {
+        return Err(VfFault::BadName(def.k));
+    };
+    fonts.reserve(1)?;
+    fonts.push_reserved(font);
     Ok(next)
 }
 
@@ -79,16 +93,17 @@ fn take_definition(locals: &mut Locals, bytes: &[u8], at: usize) -> Result<usize
 fn read_locals(alloc: Global, bytes: &[u8], start: usize) -> Result<(Locals, usize), VfFault>
     requires preamble { HasPreamble bytes.now }
     requires start { start ≡ body_at bytes.now }
-    ensures found { IfOk result (λ r. LocalsTo bytes.now r.0 r.1) }
+    ensures found { IfOk result (λ r. LocalsTo bytes.now r.0 r.1 × Apart r.0) }
     ensures stops { IfOk result (λ r. NoDefinitionAt bytes.now r.1) }
     ensures err { IfErr result (RefusesFile bytes.now) }
 {
-    let mut locals = Locals::new(alloc);
+    one_spelling();
+    let mut fonts = Vec::new(alloc);
     let mut at = start;
     'definitions: while at < bytes.len() && is_definition(bytes[at]) {
-        at = take_definition(&mut locals, bytes, at)?;
+        at = take_definition(&mut fonts, bytes, at)?;
     }
-    Ok((locals, at))
+    Ok((Locals::new(alloc, fonts)?, at))
 }
 
 /// Whether a code has a packet.

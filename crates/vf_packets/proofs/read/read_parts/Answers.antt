@@ -27,5 +27,8 @@ returns-then-not-is_tail-clause-fault c =
 pub returns-clause-found : goal.returns-clause-found
 returns-clause-found c =
     let s = c.in_ok-slots.ensures in
-    whole_file c.args.bytes.now c.in_ok-locals.locals c.in_ok-locals.middle (map (packet_in c.args.bytes.now) c.in_ok-slots.slots.items) c.in_ok-slots.end c.in-Some.preamble.0
-    c.in_ok-locals.ensures.found s.found c.if-not-is_tail.ensures c.in-Some.ensures.1
+    let bytes = c.args.bytes.now in
+    let fonts = c.in_ok-locals.locals in
+    let l = c.in_ok-locals.ensures.found in
+    whole_file bytes fonts c.in_ok-locals.middle (map (packet_in c.args.bytes.now) c.in_ok-slots.slots.items) c.in_ok-slots.end c.in-Some.preamble.0
+    l.0 l.1 s.found c.if-not-is_tail.ensures c.in-Some.ensures.1

@@ -23,7 +23,7 @@ returns-in_ok-font-in-Page c =
     let def = def_view c.in_ok-font-in-Page.font.now in
     rw c.in-Page.is
     (c.id.ensures.value
-    ∙ ap (place_of c.args.self.now.fonts.now.fonts) (key_is def c.key.result c.key.ensures)
+    ∙ ap (place_of c.args.self.now.fonts.now.fonts) (key_is def c.of.result c.of.ensures)
     ∙ sym (ap (id_of c.args.self.now.fonts.now) (key_one ds def c.args.k found.0 (found.1 ∙ to_z-of_z w64 c.args.k c.ranges.k) (once c.args.k))))
 
 pub returns-in-Packet : goal.returns-in-Packet
