@@ -52,7 +52,7 @@ fn check_each(defs: &[Def<'_>]) -> Result<(), DocFault>
 fn index_of(alloc: Global, defs: &[Def<'_>]) -> Result<NumberIndex, AllocError>
     ensures { IfOk result (λ index. IsPermutation (numbered 0 (numbers_of (map def_view defs.now))) index) }
 {
-    let mut pairs = Vec::new(alloc);
+    let mut pairs = Vec::with_capacity(alloc, defs.len())?;
     for (place, def) in defs.iter().enumerate() {
         pairs.push((def.k, place))?;
     }

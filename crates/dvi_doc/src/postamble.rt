@@ -6,7 +6,7 @@ ghost use Rattle.dvi_doc.specs.Faults.{FaultIn};
 ghost use Rattle.dvi_doc.specs.Steps.{EndsAt, FoundEnding};
 
 use crate::fault::DocFault;
-use crate::step::read_command;
+use crate::step::{pass_definition, read_command};
 use dvi_ops::{Cmd, Def};
 use std::alloc::Global;
 
@@ -27,6 +27,11 @@ pub fn read_postamble<'a>(
     let mut fonts = Vec::new(alloc);
     let mut at = start;
     while at < ends {
+        if let Some((def, end)) = pass_definition(bytes, at, ends) {
+            fonts.push(def)?;
+            at = end;
+            continue;
+        }
         let (cmd, end) = read_command(bytes, at, ends)?;
         match cmd {
             Cmd::Nop => at = end,

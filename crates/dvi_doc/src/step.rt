@@ -1,15 +1,16 @@
 //! One command further in a file whose end is known.
 ghost use Rattle.std.specs.Prelude.{◌≡◌, ◌≤◌, ◌<◌, ◌^◌, [], length, IfOk, IfErr, IfSome};
 ghost use Rattle.dvi_ops.specs.Command.{Command};
+ghost use Rattle.dvi_ops.specs.Command.Command.{FntDef};
 ghost use Rattle.dvi_doc.specs.Document.{put_definition};
 ghost use Rattle.dvi_doc.specs.Grammar.{IsInner};
-ghost use Rattle.dvi_ops.specs.View.{view};
+ghost use Rattle.dvi_ops.specs.View.{view, def_view};
 ghost use Rattle.dvi_doc.specs.Order.{Reading, Reaches, SpelledTo};
 ghost use Rattle.dvi_doc.specs.Faults.{FaultIn};
 ghost use Rattle.dvi_doc.specs.Steps.{EndsAt};
 
 use crate::fault::DocFault;
-use dvi_ops::{Cmd, OpFault, next_cmd, pass};
+use dvi_ops::{Cmd, Def, OpFault, definition_at, next_cmd, pass};
 
 /// The command at a place that reading came to, and the place behind it, which isn't past the trailer's `post_post`.
 pub fn read_command(bytes: &[u8], at: usize, ends: usize) -> Result<(Cmd<'_>, usize), DocFault>
@@ -42,4 +43,16 @@ pub fn pass_command(bytes: &[u8], at: usize, ends: usize) -> Option<usize>
 {
     let end = pass(bytes, at)?;
     if end <= ends { Some(end) } else { None }
+}
+
+/// The font definition at a place, and the place behind it, where one stands there that ends before the trailer's `post_post`; `None`
+/// elsewhere. [`read_command`] tells what else stands there.
+#[inline(always)]
+pub fn pass_definition(bytes: &[u8], at: usize, ends: usize) -> Option<(Def<'_>, usize)>
+    requires before { at < ends }
+    requires inside { ends ≤ length bytes.now }
+    ensures { IfSome result (λ r. SpelledTo bytes.now at r.1 (FntDef (def_view r.0)) × (r.1 ≤ ends)) }
+{
+    let (def, end) = definition_at(bytes, at)?;
+    if end <= ends { Some((def, end)) } else { None }
 }

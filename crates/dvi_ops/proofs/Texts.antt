@@ -7,8 +7,8 @@ use Rattle.byteorder.specs.Endian.{big_number}
 use Rattle.byteorder.specs.Numbers.{big_from-append}
 use Rattle.dv_base.specs.Numbers.{unsigned}
 use Rattle.dvi_ops.specs.Command.{Command}
-use Rattle.dvi_ops.specs.Command.Command.{Set, Fnt, Nop, Push, Pop, W0, X0, Y0, Z0}
-use Rattle.dvi_ops.specs.Spelling.{fixed_len, text_len, extent, meaning, low, motion, high, Spell, byte_at, behind}
+use Rattle.dvi_ops.specs.Command.Command.{FntDef, Set, Fnt, Nop, Push, Pop, W0, X0, Y0, Z0}
+use Rattle.dvi_ops.specs.Spelling.{fixed_len, text_len, extent, meaning, low, motion, high, definition, Spell, byte_at, behind}
 use Rattle.dvi_ops.specs.declared.cmd.OpFault.{OpFault}
 use Rattle.dvi_ops.specs.declared.cmd.OpFault.TheVariants as fault
 use Rattle.dvi_ops.specs.View.{FaultAt, NoSpelling}
@@ -41,6 +41,10 @@ len_of_def op a b = grind (arith, nat_tests)
 len_of_pre : (op : ℕ) → 247 ≤ op → op < 248 → fixed_len op ≡ 14
 unfolding fixed_len
 len_of_pre op a b = grind (arith, nat_tests)
+
+pub meaning_of_def : (op : ℕ) (args : List ℕ) → 243 ≤ op → op < 247 → meaning op args ≡ FntDef (definition (op - 242) args)
+unfolding meaning high
+meaning_of_def op args a b = grind (arith, nat_tests)
 
 pub meaning_of_low : (op : ℕ) (args : List ℕ) → op < 143 → meaning op args ≡ low op args
 unfolding meaning

@@ -15,6 +15,7 @@
 #![tactic(auto)]
 
 mod cmd;
+mod definition;
 mod following;
 mod laws;
 mod length;
@@ -24,6 +25,7 @@ mod plain;
 mod read;
 
 pub use cmd::{Cmd, Def, Head, OpFault, Tail};
+pub use definition::definition_at;
 pub use following::command_at;
 pub use laws::{one_reading, one_spelling};
 pub use number_index::NumberIndex;

@@ -139,7 +139,7 @@ fn read_low<'a>(op: u8, args: &'a [u8]) -> Cmd<'a>
 
 /// A font definition whose number has `n` bytes.
 #[tactic(auto, unfolding(crate::specs::Spelling::definition))]
-fn read_def<'a>(n: usize, args: &'a [u8]) -> Def<'a>
+pub fn read_def<'a>(n: usize, args: &'a [u8]) -> Def<'a>
     requires low { 1 ≤ n }
     requires high { n ≤ 4 }
     requires room { n + 14 ≤ length args.now }

@@ -1,4 +1,4 @@
--- What the reader of packets answers.
+-- What the reader of packets answers. (Of these words public clauses cite `IsShortPacket` alone.)
 use Rattle.std.specs.Prelude.{◌≡◌, ℕ, List, ◌+◌, ◌<◌, ◌≤◌, length, drop, slice_index, slice_range, Some}
 use Rattle.vf_packets.specs.Packets.{CharacterPacket, packet_at, extent}
 use Rattle.vf_packets.specs.declared.packet.Packet.{Packet}

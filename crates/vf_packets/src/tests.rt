@@ -95,7 +95,7 @@ fn file(alloc: Global, head: &str, body: &str) -> Result<Vec<u8>, AllocError> {
 }
 
 /// What a local font says.
-fn said(alloc: Global, font: Option<Local>) -> Result<String, AllocError> {
+fn said(alloc: Global, font: Option<&Local>) -> Result<String, AllocError> {
     match font {
         Some(font) => format!(in alloc;
             "{} {} {} {} {}",

@@ -25,6 +25,23 @@ loop-at-preserved-in-Nop c =
       reached = λ last post h. reach_behind bytes at end last post Nop s tt (i.reached last post h);
     }
 
+pub loop-at-preserved-in-Some : goal.loop-at-preserved-in-Some
+loop-at-preserved-in-Some c =
+    let f = c.in-Some.ensures in
+    let i = c.loop-at.invariant in
+    let bytes = c.args.bytes.now in
+    let at = c.loop-at.at in
+    let end = c.in-Some.end in
+    let d : Command = FntDef (def_view c.in-Some.def) in
+    let more : map def_view c.push.new.self.items ≡ map def_view c.loop-at.fonts.items ++ put_definition d [] =
+    ap (map def_view) c.in_ok-push.ensures.items ∙ map-append def_view c.loop-at.fonts.items (c.in-Some.def ∷ []) in
+    record {
+      onward = omega (arith, i.onward, f.0.0);
+      inside = f.1;
+      holds = ending_more bytes c.args.start at end d c.loop-at.fonts.items c.push.new.self.items i.onward f.0 tt more i.holds;
+      reached = λ last post h. reach_behind bytes at end last post d f.0 tt (i.reached last post h);
+    }
+
 pub loop-at-preserved : goal.loop-at-preserved
 loop-at-preserved c =
     let f = c.in_ok-cmd.ensures.found in
@@ -34,23 +51,23 @@ loop-at-preserved c =
     let end = c.in_ok-cmd.end in
     let d : Command = FntDef (def_view c.in-FntDef.def) in
     let s : SpelledTo bytes at end d = subst (λ (x : Cmd). SpelledTo bytes at end (view x)) c.in-FntDef.is f.0 in
-    let more : map def_view c.push.new.self.items ≡ map def_view c.loop-at.fonts.items ++ put_definition d [] =
+    let more : map def_view c.push-in-FntDef.new.self.items ≡ map def_view c.loop-at.fonts.items ++ put_definition d [] =
     ap (map def_view) c.in_ok-push-in-FntDef.ensures.items ∙ map-append def_view c.loop-at.fonts.items (c.in-FntDef.def ∷ []) in
     record {
       onward = omega (arith, i.onward, f.0.0);
       inside = f.1;
-      holds = ending_more bytes c.args.start at end d c.loop-at.fonts.items c.push.new.self.items i.onward s tt more i.holds;
+      holds = ending_more bytes c.args.start at end d c.loop-at.fonts.items c.push-in-FntDef.new.self.items i.onward s tt more i.holds;
       reached = λ last post h. reach_behind bytes at end last post d s tt (i.reached last post h);
     }
 
-pub returns-in_default : goal.returns-in_default
-returns-in_default c =
+pub returns-in_default-cmd : goal.returns-in_default-cmd
+returns-in_default-cmd c =
     let last = c.requires.reached.0 in
     let post = c.requires.reached.1 in
     let f = c.in_ok-cmd.ensures.found in
     record {
       found = tt;
-      fault = not_ending c.args.bytes.now c.loop-at.at c.in_ok-cmd.end c.args.ends last post c.in_ok-cmd.cmd (not_filler c.in_ok-cmd.cmd c.in_default.not-Nop c.in_default.not-FntDef) c.loop-at-test.true c.requires.trailer.0
+      fault = not_ending c.args.bytes.now c.loop-at.at c.in_ok-cmd.end c.args.ends last post c.in_ok-cmd.cmd (not_filler c.in_ok-cmd.cmd c.in_default-cmd.not-Nop c.in_default-cmd.not-FntDef) c.loop-at-test.true c.requires.trailer.0
           (c.loop-at.invariant.reached last post c.requires.reached.2) f.0;
     }
 
