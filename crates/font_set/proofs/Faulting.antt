@@ -5,16 +5,20 @@ use Rattle.dvi_ops.specs.Command.Command.{Set, Put, Fnt}
 use Rattle.dvi_ops.specs.Placed.{Placed, Lexes}
 use Rattle.dv_base.specs.declared.font_id.Spot.{Spot}
 use Rattle.font_set.specs.Key.{Key, same_key}
-use Rattle.font_set.specs.Fonts.{State, FontSet, place_of, state_at, size_at, IsLoaded, IsVirtual, packet_at}
+use Rattle.font_set.specs.Fonts.{State, FontSet, place_of, state_at, size_at, IsLoaded}
 use Rattle.vf_packets.specs.Font.{packet_of}
-use Rattle.pk_raster.specs.Font.Known.{Nothing, Large}
 use Rattle.std.proofs.Math.ListN.{length-drop}
 use Rattle.font_set.specs.Programs.{Scope, Program, HasNumber, program_at, program_in, packet_program, lexed, locals_at, locals_in, locals_of, head_of, key_of_first, id_of}
 use Rattle.font_set.specs.Acts.{Act, IsReached, Reached}
 use Rattle.font_set.specs.Frames.{Char, FontAct, acts_of, body}
-use Rattle.font_set.specs.LoadFaults.{CommandOf, PacketOf, InFrame, InSome, IsCharCommand, SelectsNone, SetsNowhere, SetsIn, HasNoWidth, LoadFaultIs, look_at}
+use Rattle.dv_base.specs.Shelf.{Told}
+use Rattle.dvi_doc.specs.declared.font.FontKey.{FontKey}
+use Rattle.font_set.specs.Views.{key_of}
+use Rattle.font_set.specs.LoadFaults.{CommandOf, PacketOf, InFrame, InSome, IsCharCommand, SelectsNone, SetsNowhere, SetsIn, SelectsKey, MustKnow, FontFaultIs, LoadFaultIs}
+use Rattle.font_set.specs.declared.fault.FontFault.{FontFault}
+use Rattle.font_set.specs.declared.fault.FontFault.TheVariants as font
 use Rattle.font_set.specs.Growth.{Extends, keys_now}
-use Rattle.font_set.specs.Search.{fonts_of, program_of, program_or, or_empty, bytes_of, first_of, spot_at, IsHome, IsSel, IsTurnFault, IsCharFault, MeetFault, Tells, rooted, root}
+use Rattle.font_set.specs.Search.{fonts_of, program_of, program_or, or_empty, bytes_of, first_of, spot_at, IsHome, IsSel, IsTurnFault, BadAt, Tells, rooted, root}
 use Rattle.font_set.specs.Progress.{Search}
 use Rattle.font_set.specs.Found.{In, FontFrame, IsChar, IsAt, TurnHere}
 use Rattle.font_set.specs.declared.agenda.Home.{Home}
@@ -25,7 +29,7 @@ use Rattle.font_set.specs.declared.turn.Does.TheVariants as does
 use Rattle.font_set.specs.declared.fault.LoadFault.{LoadFault}
 use Rattle.font_set.specs.declared.fault.LoadFault.TheVariants as load
 use Rattle.font_set.proofs.Growing.{extends_self}
-use Rattle.font_set.proofs.Finding.{Opened, Moved, NoFonts, grown, moved, turn_later, sel_key}
+use Rattle.font_set.proofs.Finding.{Opened, Moved, NoFonts, moved, sel_key}
 use Rattle.font_set.proofs.Ending.{reached_in}
 
 -- the fonts of a packet are the local ones of its font
@@ -139,11 +143,25 @@ module _ (page : Program) (bytes : List ℕ) (first : ℕ) where
       c.before c.behind (record { place = first_of first p.home + p.at; command = c.command }) c.whole SetsNowhere
       (c, z, char_command scope m.command z (subst (Tells scope m.command) e m.tells), sel)
 
-  -- a command selects a number that isn't defined
+  -- a command selects a local font of a packet's font, a size of which isn't as it should be
+  bad_font : (old now : FontSet) (ks : List Key) (f : FontFrame) (fs : List FontFrame) (seen : List Char) (at : ℕ)
+      → Search same_key (rooted page now) root (keys_now old) (In seen) ks (f ∷ fs)
+      → (h : Home) → IsChar now h f.packet → (c : CommandOf (program_of now page h) at) → (k : ℤ) → c.command ≡ Fnt k → (e : FontFault) → BadAt now h k e → (a b : Told) → FontFaultIs now page a b e
+  bad_font old now ks f fs seen at s home.Page ch c k q e bad a b = absurd bad
+  bad_font old now ks f fs seen at s (home.Packet id code) ch c k q (font.BadSize parts) bad a b = (
+    id,
+    code,
+    program_or now id code,
+    packet_here old now ks id code f fs seen ch s c.before c.behind (record { place = at; command = c.command }) c.whole,
+    inr (at, c, k, q, bad),
+  )
+  bad_font old now ks f fs seen at s (home.Packet id code) ch c k q _ bad a b = absurd bad
+
+  -- a command selects a number that isn't defined, or such a font
   pub turn_fault : (old now : FontSet) (vs : List Bool) (p : Place) (ps : List Place) (e : LoadFault)
-      → IsTurnFault p.home (program_of now page p.home).scope (first_of first p.home) p.at (bytes_of now bytes p.home) e → Opened page bytes first old now (NoFonts page bytes first) (keys_now now) vs p ps
-      → LoadFaultIs now page e
-  turn_fault old now vs p ps (load.UndefinedFont spot) h s =
+      → IsTurnFault now p.home (program_of now page p.home).scope (first_of first p.home) p.at (bytes_of now bytes p.home) e → Opened page bytes first old now (NoFonts page bytes first) (keys_now now) vs p ps
+      → (told_before told_now : Told) → LoadFaultIs now page told_before told_now e
+  turn_fault old now vs p ps (load.UndefinedFont spot) h s before now_told =
       let a = s.here in
       let at = first_of first p.home + p.at in
       let k = h.1 a.rest a.lexed in
@@ -153,44 +171,41 @@ module _ (page : Program) (bytes : List ℕ) (first : ℕ) where
       subst (λ (x : Spot). InFrame now page x SelectsNone) (sym h.0)
       (in_frame old now (keys_now now) s.frame s.frames s.seen at (s.search now (extends_self now)) p.home a.char a.before k.1 c whole SelectsNone
       (command, k.3, k.4, k.5))
-  turn_fault old now vs p ps (load.Font f) h s = tt
-  turn_fault old now vs p ps _ h s = absurd h
-
-  -- a character that can't be met
-  sets_in : (old new : FontSet) (X : ℕ → Type 0) (ks : List Key) (vs : List Bool) (p : Place) (ps : List Place) (t : Turn) (id : ℕ) (z : ℤ)
-      → TurnHere page bytes first new p t → t.does ≡ does.Sets z → p.font ≡ Some id → Opened page bytes first old new X ks vs p ps → InSome new page (SetsIn new id z)
-  unfolding command_here
-  sets_in old new X ks vs p ps t id z turn e fo s =
-      let m = moved page bytes first new p s.frame t turn s.here in
-      let c = command_here new p s.frame t m in
-      let k = sel_key page bytes first new m.sel id (subst (IsSel new m.sel) fo m.same) in
-      let scope = (program_of new page p.home).scope in
+  turn_fault old now vs p ps (load.Font f) h s before now_told =
+      let a = s.here in
       let at = first_of first p.home + p.at in
-      let named : id_of new m.sel ≡ Some id = ap (id_of new) k.1 ∙ k.2 in
-      in_some old new ks s.frame s.frames s.seen (s.search new (extends_self new)) p.home s.here.char
-      c.before c.behind (record { place = at; command = c.command }) c.whole (SetsIn new id z)
-      (at, c, char_command scope m.command z (subst (Tells scope m.command) e m.tells), named)
+      let k = h a.rest a.lexed in
+      let c : Placed = record { place = at; command = k.0 } in
+      let whole : a.before ++ c ∷ k.1 ≡ (program_of now page p.home).commands = ap (λ (cs : List Placed). a.before ++ cs) (sym k.2) ∙ a.whole in
+      let command : CommandOf (program_of now page p.home) at = record { before = a.before; command = k.0; behind = k.1; whole = whole; sel = a.sel; selects = a.selects } in
+      bad_font old now (keys_now now) s.frame s.frames s.seen at (s.search now (extends_self now)) p.home a.char command k.3 k.4 f k.5 before now_told
+  turn_fault old now vs p ps _ h s before now_told = absurd h
 
-  pub char_fault : (old now new : FontSet) (vs : List Bool) (p : Place) (ps : List Place) (t : Turn) (id : ℕ) (z : ℤ) (e : LoadFault)
-      → TurnHere page bytes first now p t → t.does ≡ does.Sets z → p.font ≡ Some id → Extends now new → Opened page bytes first old now (NoFonts page bytes first) (keys_now now) vs p ps
-      → MeetFault new id z e → LoadFaultIs new page e
-  char_fault old now new vs p ps t id z e turn d fo x s h =
-      let g = grown page bytes first old now new (λ i. Unit {0}) (keys_now now) vs p ps x (λ i l. inl tt) s in
-      let sets = sets_in old new (λ i. Unit {0}) (keys_now now) vs p ps t id z (turn_later page bytes first now new p t x s.here.given turn) d fo g in
-      by e h sets
-    where
-      by : (e : LoadFault) → MeetFault new id z e → InSome new page (SetsIn new id z) → LoadFaultIs new page e
-      by (load.NoChar i y) h q =
-          let P = λ (i : ℕ). InSome new page (SetsIn new i y) × HasNoWidth new i y in
-          subst P (sym h.0) (subst (λ (w : ℤ). InSome new page (SetsIn new id w)) (sym h.1) q, subst (HasNoWidth new id) (sym h.1) h.2)
-      by (load.NoPacket i code) h q =
-          let P = λ (i : ℕ). InSome new page (SetsIn new i (pos code)) × IsVirtual (state_at new i) × (packet_at new i code ≡ None) in
-          subst P (sym h.0) (subst (λ (w : ℤ). InSome new page (SetsIn new id w)) h.1 q, h.2, h.3)
-      by (load.NoGlyph i code) h q =
-          let P = λ (i : ℕ). InSome new page (SetsIn new i (pos code)) × (look_at new i code ≡ Some Nothing) in
-          subst P (sym h.0) (subst (λ (w : ℤ). InSome new page (SetsIn new id w)) h.1 q, h.2)
-      by (load.GlyphTooBig i code bytes) h q =
-          let P = λ (i : ℕ). InSome new page (SetsIn new i (pos code)) × (look_at new i code ≡ Some (Large bytes)) in
-          subst P (sym h.0) (subst (λ (w : ℤ). InSome new page (SetsIn new id w)) h.1 q, h.2)
-      by (load.Font f) h q = tt
-      by _ h q = absurd h
+  -- the key that a command selects must be known
+  pub selects_in : (old now : FontSet) (vs : List Bool) (p : Place) (ps : List Place) (t : Turn) (key : FontKey)
+      → TurnHere page bytes first now p t → t.does ≡ does.Selects key → Opened page bytes first old now (NoFonts page bytes first) (keys_now now) vs p ps → MustKnow now page (key_of key)
+  unfolding command_here
+  selects_in old now vs p ps t key turn e s =
+      let m = moved page bytes first now p s.frame t turn s.here in
+      let c = command_here now p s.frame t m in
+      let scope = (program_of now page p.home).scope in
+      let at = first_of first p.home + p.at in
+      let w = subst (Tells scope m.command) e m.tells in
+      in_some old now (keys_now now) s.frame s.frames s.seen (s.search now (extends_self now)) p.home s.here.char
+      c.before c.behind (record { place = at; command = c.command }) c.whole (SelectsKey (key_of key))
+      (inr (at, c, w.0, w.1, w.2))
+
+  -- a character is set in the selected font
+  pub sets_in : (old now : FontSet) (vs : List Bool) (p : Place) (ps : List Place) (t : Turn) (id : ℕ) (z : ℤ)
+      → TurnHere page bytes first now p t → t.does ≡ does.Sets z → p.font ≡ Some id → Opened page bytes first old now (NoFonts page bytes first) (keys_now now) vs p ps → InSome now page (SetsIn now id z)
+  unfolding command_here
+  sets_in old now vs p ps t id z turn e fo s =
+      let m = moved page bytes first now p s.frame t turn s.here in
+      let c = command_here now p s.frame t m in
+      let k = sel_key page bytes first now m.sel id (subst (IsSel now m.sel) fo m.same) in
+      let scope = (program_of now page p.home).scope in
+      let at = first_of first p.home + p.at in
+      let named : id_of now m.sel ≡ Some id = ap (id_of now) k.1 ∙ k.2 in
+      in_some old now (keys_now now) s.frame s.frames s.seen (s.search now (extends_self now)) p.home s.here.char
+      c.before c.behind (record { place = at; command = c.command }) c.whole (SetsIn now id z)
+      (at, c, char_command scope m.command z (subst (Tells scope m.command) e m.tells), named)

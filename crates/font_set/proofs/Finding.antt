@@ -34,6 +34,9 @@ use Rattle.font_set.proofs.Order.{begin, take_select, skip, enter, leave, ended,
 use Rattle.font_set.proofs.Ids.{one_key, id_below, same_self}
 use Rattle.font_set.proofs.Growing.{extends_self, extends_on, state_later, loaded_later, program_same, bytes_same, home_later, sel_later, shown_loaded, good_place, good_of, good_later, body_is, rooted_char, rooted_root, rooted_is, marked_split}
 
+pub runs_it : (k : Key) (code : ℕ) → code < 256 → char_act (Some k) (pos code) ≡ Runs (record { key = k; code = code })
+runs_it k code l = grind (arith, nat_tests)
+
 module _ (page : Program) (bytes : List ℕ) (first : ℕ) where
   char_later : (F G : FontSet) (h : Home) (ch : Char) → Extends F G → IsChar F h ch → IsChar G h ch
   char_later F G home.Page ch x c = c
@@ -300,9 +303,6 @@ module _ (page : Program) (bytes : List ℕ) (first : ℕ) where
   pub sel_key : (set : FontSet) (sel : Option Key) (id : ℕ) → IsSel set sel (Some id) → (k : Key) × (sel ≡ Some k) × (place_of set.fonts k ≡ Some id)
   sel_key set None id s = absurd s
   sel_key set (Some k) id s = (k, refl, s)
-
-  runs_it : (k : Key) (code : ℕ) → code < 256 → char_act (Some k) (pos code) ≡ Runs (record { key = k; code = code })
-  runs_it k code l = grind (arith, nat_tests)
 
   -- The character at the top: its key, and the frame with its act in front.
   pub record Setting (now : FontSet) (p : Place) (f : FontFrame) (t : Turn) (id code : ℕ) : Type 0 where

@@ -10,7 +10,8 @@ use Rattle.indexmap.specs.IndexSet.{insert_key}
 use Rattle.font_set.specs.Key.{Key, IsKey, same_key}
 use Rattle.font_set.specs.Fonts.{State, Entry, FontSet, place_of, learn, learn_by, state_at, state_in, IsLoaded, raster_bytes, raster_bytes_in}
 use Rattle.font_set.specs.Growth.{keys_now, Extends, Learnt}
-use Rattle.font_set.specs.Stored.{AreStored, IsStored}
+use Rattle.font_set.specs.Stored.{AreStored, IsStored, HasWanted, HaveWanted}
+use Rattle.font_set.specs.declared.want.Want.{Want}
 
 abbrev pub new_entry : Key → Entry
 new_entry k = record { key = k; state = State.Known }
@@ -110,6 +111,18 @@ stored_learn es k e h l a =
       each = stored_push es k h a.each;
       room = omega (arith, push_bytes es k, a.room);
     })
+
+wanted_known : (want : Want) → HasWanted want State.Known
+wanted_known Want.Widths = tt
+wanted_known Want.Packets = tt
+wanted_known Want.Rasters = tt
+
+wanted_push : (want : Want) (es : List Entry) (k : Key) → HaveWanted want es → HaveWanted want (es ++ new_entry k ∷ [])
+wanted_push want [] k h = (wanted_known want, tt)
+wanted_push want (e ∷ es) k h = (h.0, wanted_push want es k h.1)
+
+pub wanted_learn : (want : Want) (es : List Entry) (k : Key) → place_of es k ≡ None → HaveWanted want es → HaveWanted want (learn es k)
+wanted_learn want es k e h = subst (HaveWanted want) (sym (learn_is es k e)) (wanted_push want es k h)
 
 pub not_full : (n : ℕ) → n ≤ 1000 → (n ≡ 1000 → ⊥) → n < 1000
 not_full n l h = grind (arith, nat_tests)

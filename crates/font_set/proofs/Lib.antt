@@ -12,6 +12,11 @@ pub mod Order
 pub mod Growing
 pub mod Finding
 pub mod Ending
+pub mod Later
+pub mod Trees
+pub mod Expanding
+pub mod Gaining
+pub mod Telling
 pub mod Faulting
 pub mod Steps
 pub mod States

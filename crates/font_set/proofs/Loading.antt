@@ -12,7 +12,7 @@ use Rattle.font_set.specs.Fonts.{State, Entry, FontSet, place_of, state_at, stat
 use Rattle.font_set.specs.Files.{with_state}
 use Rattle.font_set.specs.FontOf.{FontOf, LoadsAs, Loads}
 use Rattle.font_set.specs.Growth.{keys_now, Extends, Loaded}
-use Rattle.font_set.specs.Stored.{AreStored, IsStored, IsSound, entry_of, entries_of, state_of}
+use Rattle.font_set.specs.Stored.{AreStored, HasWanted, HaveWanted, IsStored, IsSound, entry_of, entries_of, state_of}
 use Rattle.font_set.specs.declared.font.Font.{Font}
 use Rattle.font_set.specs.declared.want.Want.{Want}
 
@@ -51,6 +51,11 @@ stored_set es id s l k h r a =
       each = set_stored es id s h a.each;
       room = omega (arith, set_bytes es id s l k, r);
     }
+
+pub wanted_set : (want : Want) (es : List Entry) (id : ℕ) (s : State) → HasWanted want s → HaveWanted want es → HaveWanted want (with_state es id s)
+wanted_set want [] id s h a = tt
+wanted_set want (e ∷ es) zero s h a = (h, a.1)
+wanted_set want (e ∷ es) (suc id) s h a = (a.0, wanted_set want es id s h a.1)
 
 -- ---- what a call of load says
 

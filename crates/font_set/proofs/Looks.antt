@@ -6,10 +6,13 @@ use Rattle.std.specs.Ordering.{int_eq}
 use Rattle.dv_base.specs.FontName.{IsFontName}
 use Rattle.dvi_doc.specs.declared.font.FontKey.{FontKey}
 use Rattle.vf_packets.specs.Font.{LocalFont, VirtualFont, Apart, Has, packet_of, first_number}
+use Rattle.pk_raster.specs.Font as pk_font
 use Rattle.font_set.specs.Key.{Key}
-use Rattle.font_set.specs.Fonts.{State, Entry, FontSet, key_at, state_at, size_at, entry_key, state_in, vf_in, pk_in, packet_at, packet_by, bitmap_at, bitmap_by, fix_word_in, Mismatches, IsMismatched}
+use Rattle.font_set.specs.Fonts.{State, Entry, FontSet, key_at, state_at, size_at, entry_key, state_in, vf_in, pk_in, packet_at, packet_by, bitmap_at, bitmap_by, kept_bitmap, fix_word_in, Mismatches, IsMismatched}
 use Rattle.font_set.specs.Programs.{Named, HasNumber, key_in, head_of, locals_at, locals_in, locals_of, local_named, local_fonts}
-use Rattle.font_set.specs.Stored.{IsSound, IsFit, IsFine, entry_of, state_of}
+use Rattle.pk_raster.specs.Laws.{AreRows}
+use Rattle.font_set.specs.Stored.{IsSound, IsStored, AreStored, HasWanted, HaveWanted, IsFit, AreDrawn, IsFine, entry_of, state_of}
+use Rattle.font_set.specs.declared.want.Want.{Want}
 use Rattle.font_set.specs.Views.{key_of}
 use Rattle.font_set.specs.declared.font.Font.{Font}
 use Rattle.font_set.specs.Locals.{KeyAnswer, FirstAnswer, BadNumber, BadFirst, named_key}
@@ -18,8 +21,13 @@ use Rattle.font_set.proofs.Stores.{key_is, state_is}
 
 pub fine_in : (s : State) (code : ℕ) → IsSound s → code < 256 → IsFine (fix_word_in s code)
 fine_in State.Known code h l = tt
-fine_in (State.Real tfm pk) code h l = h code l
+fine_in (State.Real tfm pk) code h l = h.0 code l
 fine_in (State.Virtual tfm vf) code h l = h.0 code l
+
+pub drawn_in : (s : State) (pk : pk_font.Font) → IsSound s → pk_in s ≡ Some pk → AreDrawn (Some pk)
+drawn_in State.Known pk h e = absurd cc
+drawn_in (State.Real tfm o) pk h e = let same : o ≡ Some pk = e in subst AreDrawn same h.1
+drawn_in (State.Virtual tfm vf) pk h e = absurd cc
 
 pub fit_in : (s : State) (vf : VirtualFont) → IsSound s → vf_in s ≡ Some vf → IsFit vf
 fit_in State.Known vf h e = absurd cc
@@ -156,3 +164,39 @@ pub named_is : (fs : List Named) (k : ℤ) (P : FontKeyParts → Type 0) (r : Re
 named_is fs k P (Ok None) f a b = no_key fs k a
 named_is fs k P (Ok (Some key)) f a b = a.0
 named_is fs k P (Err parts) f a b = f parts b
+
+-- ---- bitmaps
+
+kept_bits : (k : pk_font.Known) (b : pk_font.Bitmap) → kept_bitmap k ≡ Some b → k ≡ pk_font.Known.Bits b
+kept_bits pk_font.Known.Nothing b e = absurd cc
+kept_bits (pk_font.Known.Large n) b e = absurd cc
+kept_bits (pk_font.Known.Bits a) b e = let same : a ≡ b = cc in ap (λ (x : pk_font.Bitmap). pk_font.Known.Bits x) same
+
+rows_by : (o : Option pk_font.Font) (code : ℕ) (b : pk_font.Bitmap) → AreDrawn o → bitmap_by o code ≡ Some b → AreRows b
+rows_by None code b h e = absurd cc
+rows_by (Some pk) code b h e = h code b (kept_bits (pk_font.glyph_at pk code) b e)
+
+rows_in : (s : State) (code : ℕ) (b : pk_font.Bitmap) → IsSound s → bitmap_by (pk_in s) code ≡ Some b → AreRows b
+rows_in State.Known code b h e = absurd cc
+rows_in (State.Real tfm pk) code b h e = rows_by pk code b h.1 e
+rows_in (State.Virtual tfm vf) code b h e = absurd cc
+
+sound_at : (es : List Entry) (i : ℕ) → AllByRecursion IsStored es → IsSound (state_in (slice_get es i))
+sound_at [] i h = tt
+sound_at (e ∷ es) zero h = let s = h.0 in s.sound
+sound_at (e ∷ es) (suc i) h = sound_at es i h.1
+
+wanted_in : (want : Want) (es : List Entry) (i : ℕ) → HaveWanted want es → HasWanted want (state_in (slice_get es i))
+wanted_in Want.Widths [] i h = tt
+wanted_in Want.Packets [] i h = tt
+wanted_in Want.Rasters [] i h = tt
+wanted_in want (e ∷ es) zero h = h.0
+wanted_in want (e ∷ es) (suc i) h = wanted_in want es i h.1
+
+pub all_wanted : (set : FontSet) → HaveWanted set.want set.fonts → (id : ℕ) → HasWanted set.want (state_at set id)
+unfolding state_at
+all_wanted set h id = wanted_in set.want set.fonts id h
+
+pub all_rows : (set : FontSet) → AreStored set.fonts → (id code : ℕ) (b : pk_font.Bitmap) → bitmap_at set id code ≡ Some b → AreRows b
+unfolding bitmap_at state_at
+all_rows set h id code b e = rows_in (state_in (slice_get set.fonts id)) code b (sound_at set.fonts id h.each) e

@@ -93,3 +93,20 @@ begins one set id code bytes e g =
     let c : commands_in 0 bytes ≡ Some cs = (one 0 bytes cs).0 g.spelled in
     let w = some_program set.units (size_at set id) (state_at set id) code bytes cs e c in
     record { spelled = subst (Lexes 0 bytes) (sym w.0) g.spelled; first = w.1 }
+
+-- a character with bytes has a packet
+pub has_program : OneReading → (set : FontSet) (id code : ℕ) (bytes : List ℕ) → packet_at set id code ≡ Some bytes → IsProgram bytes → (program : Program) × (program_at set id code ≡ Some program)
+unfolding packet_at program_at
+has_program one set id code bytes e g = by (state_at set id) e
+  where
+    by : (s : State) → packet_in s code ≡ Some bytes → (program : Program) × (program_in set.units (size_at set id) s code ≡ Some program)
+    by State.Known q = absurd cc
+    by (State.Real tfm pk) q = absurd cc
+    by (State.Virtual tfm vf) q =
+        let cs = g.commands in
+        let c : commands_in 0 bytes ≡ Some cs = (one 0 bytes cs).0 g.spelled in
+        let units = set.units in
+        let size = size_at set id in (
+          record { scope = record { size = Some size; fonts = locals_of units.num units.den size vf }; first = head_of (locals_of units.num units.den size vf); commands = cs },
+          ap (λ (o : Option (List Placed)). packet_program units.num units.den size vf o) (ap lexed q ∙ c),
+        )

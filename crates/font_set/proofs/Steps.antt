@@ -1,6 +1,6 @@
 -- Each command of a frame is a step of the search.
 use Rattle.std.proofs.Common.{◌≡◌, ◌≤◌, ◌<◌, ◌+◌, ◌-◌, ◌*◌, ◌⊎◌, inl, inr, ℕ, zero, suc, ℤ, pos, arith, List, [], ◌∷◌, ◌++◌, Bool, true, false, length, drop, Option, Some, None, slice_get, slice_index_or, slice_set, Result, Ok, Err, refl, sym, ap, subst, ◌∙◌, true≢false}
-use Rattle.std.specs.Prelude.{OnOk, OnErr, IfErr}
+use Rattle.std.specs.Prelude.{OnOk, IfErr}
 use Rattle.dvi_ops.specs.Placed.{Placed, Lexes}
 use Rattle.dvi_doc.specs.declared.font.FontKey.{FontKey}
 use Rattle.font_set.specs.Key.{Key, same_key}
@@ -10,7 +10,10 @@ use Rattle.font_set.specs.Programs.{Program}
 use Rattle.font_set.specs.Frames.{acts_of}
 use Rattle.font_set.specs.Covers.{Covers}
 use Rattle.font_set.specs.Acts.{Inside}
-use Rattle.font_set.specs.LoadFaults.{InFrame, SetsNowhere, LoadFaultIs}
+use Rattle.dv_base.specs.Shelf.{Contents, Told, Keeps}
+use Rattle.font_set.specs.FontFaults.{NotKnown}
+use Rattle.font_set.specs.LoadFaults.{InFrame, InSome, SetsNowhere, SetsIn, MustKnow, MustLoad, FontFaultIs, LoadFaultIs}
+use Rattle.font_set.specs.Gains.{Gains, GainsFor}
 use Rattle.font_set.specs.Growth.{Extends, Learnt, keys_now}
 use Rattle.font_set.specs.Search.{LearntFirst, program_of, bytes_of, first_of, spot_at, IsHome, IsSel, IsTurnFault, MeetFault, SameStates, InOrder, fonts_of, moves, rooted, root}
 use Rattle.font_set.specs.Found.{PageBytes, Todo, In, IsMarked, HasSeen, FoundAt, IsPlaced, Reads, Steps, Opens, Meets, IsPage, WasMet, LoadsSet, left_to_do, unmarked, ahead_sum}
@@ -25,7 +28,11 @@ use Rattle.font_set.proofs.Ids.{id_below}
 use Rattle.font_set.proofs.Growing.{extends_self, extends_on, unmarked_less, home_later}
 use Rattle.font_set.proofs.Finding.{Opened, opened, left, passed, took, skipped, entered, started, ordered, grown_loaded, turn_later, sel_key}
 use Rattle.font_set.proofs.Ending.{covered, reached_in}
-use Rattle.font_set.proofs.Faulting.{fonts_here, no_font, turn_fault, char_fault}
+use Rattle.font_set.specs.declared.fault.FontFault.TheVariants as font
+use Rattle.font_set.proofs.Faulting.{fonts_here, no_font, turn_fault, selects_in, sets_in}
+use Rattle.font_set.proofs.Later.{set_later, must_load_later, must_know_later}
+use Rattle.font_set.proofs.Gaining.{gains_wider, gains_on}
+use Rattle.font_set.proofs.Telling.{meet_told}
 
 -- ---- results
 
@@ -36,14 +43,6 @@ on_ok (Err e) f h = tt
 pub if_err : {T E : Type 0} (r : Result T E) {P Q : E → Type 0} → ((e : E) → P e → Q e) → IfErr r P → IfErr r Q
 if_err (Ok x) f h = tt
 if_err (Err e) f h = f e h
-
-pub on_err : {T E : Type 0} (r : Result T E) {A B : Type 0} → (A → B) → OnErr r A → OnErr r B
-on_err (Ok x) f h = tt
-on_err (Err e) f h = f h
-
-pub both_err : {T E : Type 0} (r : Result T E) {A : Type 0} {P Q : E → Type 0} → ((e : E) → A → P e → Q e) → OnErr r A → IfErr r P → IfErr r Q
-both_err (Ok x) f a h = tt
-both_err (Err e) f a h = f e a h
 
 -- what a place that is open has
 pub placed : (s : PageBytes) (old now : FontSet) (vs : List Bool) (p : Place) (ps : List Place) → FoundAt s old now vs (p ∷ ps) → IsPlaced s now p
@@ -164,9 +163,6 @@ start_found s set p todo page e ps vs =
     subst (λ (qs : List Place). FoundAt s set set todo.met qs) (sym (ps ∙ ap (λ (x : Place). x ∷ []) e))
     (started s.page s.bytes s.first set todo.met (length s.bytes) vs refl page.short page.lexed page.none)
 
-pub popped : (a b : Todo) (p : Place) → a.places ≡ p ∷ b.places → b.met ≡ a.met → left_to_do a ≡ left_to_do b + (p.end - p.at + 1)
-popped a b p e m = rw (e, m) (omega arith)
-
 pub still_found : (s : PageBytes) (old now : FontSet) (a b : Todo) (p : Place) → a.places ≡ p ∷ b.places → b.met ≡ a.met → FoundAt s old now a.met a.places → FoundAt s old now b.met (p ∷ b.places)
 still_found s old now a b p e m f =
     subst (λ (vs : List Bool). FoundAt s old now vs (p ∷ b.places)) (sym m) (subst (λ (ps : List Place). FoundAt s old now a.met ps) e f)
@@ -193,16 +189,53 @@ end_loads s old now vs f id l =
 -- ---- faults
 
 pub step_fault : (s : PageBytes) (old now : FontSet) (vs : List Bool) (p : Place) (ps : List Place) (e : LoadFault)
-    → IsTurnFault p.home (program_of now s.page p.home).scope (first_of s.first p.home) p.at (bytes_of now s.bytes p.home) e → FoundAt s old now vs (p ∷ ps) → LoadFaultIs now s.page e
+    → IsTurnFault now p.home (program_of now s.page p.home).scope (first_of s.first p.home) p.at (bytes_of now s.bytes p.home) e → FoundAt s old now vs (p ∷ ps) → (a b : Told) → LoadFaultIs now s.page a b e
 step_fault s old now vs p ps e h f = turn_fault s.page s.bytes s.first old now vs p ps e h (opened s.page s.bytes s.first old now vs p ps f)
 
 pub nowhere_fault : (s : PageBytes) (old now : FontSet) (vs : List Bool) (p : Place) (ps : List Place) (t : Turn) (z : ℤ) → Reads s now p t → t.does ≡ does.Sets z → p.font ≡ None
     → FoundAt s old now vs (p ∷ ps) → InFrame now s.page (spot_at p.home (first_of s.first p.home + p.at)) SetsNowhere
 nowhere_fault s old now vs p ps t z r e fo f = no_font s.page s.bytes s.first old now vs p ps t z r.command e fo (opened s.page s.bytes s.first old now vs p ps f)
 
-pub meet_fault : (s : PageBytes) (old now new : FontSet) (vs : List Bool) (p : Place) (ps : List Place) (t : Turn) (id : ℕ) (z : ℤ) (e : LoadFault) → Reads s now p t → t.does ≡ does.Sets z
-    → p.font ≡ Some id → Extends now new → MeetFault new id z e → FoundAt s old now vs (p ∷ ps) → LoadFaultIs new s.page e
-meet_fault s old now new vs p ps t id z e r d fo x h f = char_fault s.page s.bytes s.first old now new vs p ps t id z e r.command d fo x (opened s.page s.bytes s.first old now vs p ps f) h
+-- the font of a character that is set must be loaded
+pub set_here : (s : PageBytes) (old now : FontSet) (vs : List Bool) (p : Place) (ps : List Place) (t : Turn) (id : ℕ) (z : ℤ) → Reads s now p t → t.does ≡ does.Sets z → p.font ≡ Some id
+    → FoundAt s old now vs (p ∷ ps) → InSome now s.page (SetsIn now id z)
+set_here s old now vs p ps t id z r d fo f = sets_in s.page s.bytes s.first old now vs p ps t id z r.command d fo (opened s.page s.bytes s.first old now vs p ps f)
 
-pub font_fault : (set : FontSet) (page : Program) (e : LoadFault) (f : FontFault) → e ≡ load.Font f → LoadFaultIs set page e
-font_fault set page e f q = subst (LoadFaultIs set page) (sym q) tt
+pub meet_fault : (page : Program) (now new : FontSet) (id : ℕ) (z : ℤ) (a b : Told) (e : LoadFault) → Extends now new → InSome now page (SetsIn now id z) → MeetFault new id z a b e → LoadFaultIs new page a b e
+meet_fault page now new id z a b e x s h = meet_told new page id z (set_later now new page id z x s) a b e h
+
+-- the key of a font that is selected must be known
+pub selected_here : (s : PageBytes) (old now : FontSet) (vs : List Bool) (p : Place) (ps : List Place) (t : Turn) (key : FontKey) → Reads s now p t → t.does ≡ does.Selects key
+    → FoundAt s old now vs (p ∷ ps) → MustKnow now s.page (key_of key)
+selected_here s old now vs p ps t key r d f = selects_in s.page s.bytes s.first old now vs p ps t key r.command d (opened s.page s.bytes s.first old now vs p ps f)
+
+pub select_gains : (held : Option Contents) (page : Program) (now new : FontSet) (key : Key) → MustKnow now page key → Gains held now new (λ id. ⊥) (λ k. k ≡ key) → GainsFor held now new page
+select_gains held page now new key m g =
+    gains_wider held now new (λ id. ⊥) (MustLoad new page) (λ k. k ≡ key) (MustKnow new page) (λ id none. absurd none)
+    (λ k e. subst (MustKnow new page) (sym e) (must_know_later now new page key g.extends m)) g
+
+pub select_fault : (page : Program) (now : FontSet) (key : Key) (f : FontFault) → MustKnow now page key → NotKnown now.fonts key f → (a b : Told) → FontFaultIs now page a b f
+select_fault page now key font.TooManyFonts m h a b = (key, m, h)
+select_fault page now key font.OutOfMemory m h a b = tt
+select_fault page now key _ m h a b = absurd h
+
+-- ---- one step after others
+
+-- what the set gained before stays gained
+pub page_gains : (held later : Option Contents) (page : Program) (old now new : FontSet) → later ≡ held → GainsFor held old now page → GainsFor later now new page → GainsFor held old new page
+page_gains held later page old now new e g h =
+    let next = subst (λ (o : Option Contents). GainsFor o now new page) e h in
+    gains_on held old now new (MustLoad now page) (MustLoad new page) (MustKnow now page) (MustKnow new page)
+    (λ id m. must_load_later now new page id next.extends m) (λ k m. must_know_later now new page k next.extends m) g next
+
+pub keeps_on : (a b c : Told) → Keeps a b → Keeps b c → Keeps a c
+keeps_on a b c k l =
+    record {
+      held_same = l.held_same ∙ k.held_same;
+      faults_later = omega (arith, k.faults_later, l.faults_later);
+      absents_later = omega (arith, k.absents_later, l.absents_later);
+      overs_later = omega (arith, k.overs_later, l.overs_later);
+    }
+
+pub keeps_self : (a : Told) → Keeps a a
+keeps_self a = record { held_same = refl; faults_later = omega arith; absents_later = omega arith; overs_later = omega arith }

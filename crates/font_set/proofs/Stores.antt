@@ -6,7 +6,8 @@ use Rattle.dvi_doc.specs.declared.font.FontKey.{FontKey}
 use Rattle.font_set.specs.Key.{Key}
 use Rattle.font_set.specs.Fonts.{State, Entry, FontSet, size_at, state_at, key_at, size_in, state_in, entry_key, raster_bytes}
 use Rattle.font_set.specs.Growth.{keys_now}
-use Rattle.font_set.specs.Stored.{entry_of, entries_of, state_of, IsStored, AreStored}
+use Rattle.font_set.specs.Stored.{entry_of, entries_of, state_of, IsStored, AreStored, HaveWanted}
+use Rattle.font_set.specs.declared.want.Want.{Want}
 use Rattle.font_set.specs.declared.font.Font.{Font}
 
 pub get_entry : (ps : List (FontKey × Font)) (id : ℕ) (k : FontKey) (f : Font) → Some (k, f) ≡ slice_get ps id → slice_get (entries_of ps) id ≡ Some (entry_of (k, f))
@@ -53,8 +54,8 @@ size_key set id = by (slice_get set.fonts id)
     by None = refl
     by (Some e) = refl
 
-pub nothing_stored : (ps : List (FontKey × Font)) → ps ≡ [] → AreStored (entries_of ps) × (0 ≡ raster_bytes (entries_of ps))
+pub nothing_stored : (ps : List (FontKey × Font)) → ps ≡ [] → AreStored (entries_of ps) × (0 ≡ raster_bytes (entries_of ps)) × ((want : Want) → HaveWanted want (entries_of ps))
 unfolding raster_bytes
 nothing_stored ps e =
-    subst (λ (qs : List (FontKey × Font)). AreStored (entries_of qs) × (0 ≡ raster_bytes (entries_of qs))) (sym e)
-    (record { few = omega arith; each = tt; room = omega arith }, refl)
+    subst (λ (qs : List (FontKey × Font)). AreStored (entries_of qs) × (0 ≡ raster_bytes (entries_of qs)) × ((want : Want) → HaveWanted want (entries_of qs))) (sym e)
+    (record { few = omega arith; each = tt; room = omega arith }, refl, λ want. tt)

@@ -94,8 +94,8 @@ reads one s set p t a cmd inside x further within spelled asks d =
 
 pub stops : OneSpelling → (s : PageBytes) (set : FontSet) (p : Place) (next : ℕ) (a : Asked) (cmd : Command) (e : LoadFault) → p.at < p.end → IsPlaced s set p
     → p.at < next → next ≤ p.end → Spell cmd (slice_range (bytes_of set s.bytes p.home) p.at next) → IsAsked cmd a
-    → AskedFault p.home (fonts_of set s.page p.home) (first_of s.first p.home + p.at) a e
-    → IsTurnFault p.home (program_of set s.page p.home).scope (first_of s.first p.home) p.at (bytes_of set s.bytes p.home) e
+    → AskedFault set p.home (fonts_of set s.page p.home) (first_of s.first p.home + p.at) a e
+    → IsTurnFault set p.home (program_of set s.page p.home).scope (first_of s.first p.home) p.at (bytes_of set s.bytes p.home) e
 stops one s set p next asked.Nothing cmd e inside x further within spelled asks h = absurd h
 stops one s set p next (asked.Char z) cmd e inside x further within spelled asks h = absurd h
 stops one s set p next (asked.Font k) cmd (load.UndefinedFont spot) inside x further within spelled asks h =
@@ -109,5 +109,12 @@ stops one s set p next (asked.Font k) cmd (load.UndefinedFont spot) inside x fur
           let m = n.0 in
           (m.command, m.behind, m.split, k, n.1 ∙ asks_font cmd k asks, subst (λ (fonts : List Named). HasNumber fonts k → ⊥) (sym (x.fonts inside)) h.1),
     )
-stops one s set p next (asked.Font k) cmd (load.Font f) inside x further within spelled asks h = tt
+stops one s set p next (asked.Font k) cmd (load.Font f) inside x further within spelled asks h =
+    let bytes = bytes_of set s.bytes p.home in
+    let ends : length bytes ≡ p.end = x.ends in
+    let long : next ≤ length bytes = omega (arith, ends, within) in
+    λ rest l.
+    let n = named one bytes (first_of s.first p.home) p.at next cmd rest further long spelled l in
+    let m = n.0 in
+    (m.command, m.behind, m.split, k, n.1 ∙ asks_font cmd k asks, h)
 stops one s set p next (asked.Font k) cmd e inside x further within spelled asks h = absurd h

@@ -7,14 +7,13 @@ use Rattle.dvi_doc.specs.declared.font.FontKey.{FontKey}
 use Rattle.font_set.specs.Key.{IsKey}
 use Rattle.font_set.specs.Programs.{Named, HasNumber, key_in}
 use Rattle.font_set.specs.Views.{key_of}
-use Rattle.font_set.specs.Search.{spot_at}
+use Rattle.font_set.specs.Fonts.{FontSet}
+use Rattle.font_set.specs.Search.{spot_at, BadAt}
 use Rattle.font_set.specs.declared.agenda.Home.{Home}
 use Rattle.font_set.specs.declared.turn.Asked.{Asked}
 use Rattle.font_set.specs.declared.turn.Asked.TheVariants as asked
 use Rattle.font_set.specs.declared.turn.Does.{Does}
 use Rattle.font_set.specs.declared.turn.Does.TheVariants as does
-use Rattle.font_set.specs.declared.fault.FontKeyParts.{FontKeyParts}
-use Rattle.font_set.specs.declared.fault.FontFault.TheVariants as font
 use Rattle.font_set.specs.declared.fault.LoadFault.{LoadFault}
 use Rattle.font_set.specs.declared.fault.LoadFault.TheVariants as load
 
@@ -30,17 +29,17 @@ DoesAsked fonts asked.Nothing d = d ≡ does.Nothing
 DoesAsked fonts (asked.Char z) d = d ≡ does.Sets z
 DoesAsked fonts (asked.Font k) d = (key : FontKey) × (d ≡ does.Selects key) × (key_in fonts k ≡ Some (key_of key)) × IsKey (key_of key)
 
--- a size of a local font isn't as it should be
-abbrev pub IsBadSize : LoadFault → Type 0
-IsBadSize e = (parts : FontKeyParts) × (e ≡ load.Font (font.BadSize parts))
+-- why the number names no key in a frame
+abbrev pub KeyFault : FontSet → Home → ℤ → LoadFault → Type 0
+KeyFault set h k (load.Font f) = BadAt set h k f
+KeyFault set h k _ = ⊥
 
--- why it can't be done at this place
-abbrev pub NoKey : Home → List Named → ℕ → ℤ → LoadFault → Type 0
-NoKey h fonts at k (load.UndefinedFont s) = (s ≡ spot_at h at) × (HasNumber fonts k → ⊥)
-NoKey h fonts at k (load.Font f) = Unit {0}
-NoKey h fonts at k _ = ⊥
+-- why its font can't be selected at this place
+abbrev pub NoKey : FontSet → Home → List Named → ℕ → ℤ → LoadFault → Type 0
+NoKey set h fonts at k (load.UndefinedFont s) = (s ≡ spot_at h at) × (HasNumber fonts k → ⊥)
+NoKey set h fonts at k e = KeyFault set h k e
 
-abbrev pub AskedFault : Home → List Named → ℕ → Asked → LoadFault → Type 0
-AskedFault h fonts at asked.Nothing e = ⊥
-AskedFault h fonts at (asked.Char z) e = ⊥
-AskedFault h fonts at (asked.Font k) e = NoKey h fonts at k e
+abbrev pub AskedFault : FontSet → Home → List Named → ℕ → Asked → LoadFault → Type 0
+AskedFault set h fonts at asked.Nothing e = ⊥
+AskedFault set h fonts at (asked.Char z) e = ⊥
+AskedFault set h fonts at (asked.Font k) e = NoKey set h fonts at k e

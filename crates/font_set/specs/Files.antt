@@ -11,7 +11,7 @@ use Rattle.font_set.specs.declared.want.Want.{Want}
 use Rattle.dv_base.specs.declared.name.FileName.{FileName}
 use Rattle.font_set.specs.Key.{Key}
 use Rattle.font_set.specs.Fonts.{State, Entry, FontSet, IsLoaded, raster_bytes, raster_bytes_in}
-use Rattle.font_set.specs.Stored.{IsSound, IsFit}
+use Rattle.font_set.specs.Stored.{HasWanted, IsSound, IsFit}
 use Rattle.font_set.specs.FontOf.{FontOf, HasTfm, HasVf, HasRasters, vf_name, pk_name, pk_names, above_zero, first_of, most_file}
 use Rattle.font_set.specs.declared.fault.FontFault.{FontFault}
 use Rattle.font_set.specs.declared.fault.FontFault.TheVariants as fault
@@ -62,6 +62,7 @@ pub record IsRealRead (set : FontSet) (key : Key) (old : Told) (state : State) :
   pub tells : WhereHeld old.held (λ held. RealOf held set.units set.want key state)
   pub sound : IsSound state
   pub room : raster_bytes set.fonts + raster_bytes_in state ≤ 2 ^ 30
+  pub wanted : HasWanted set.want state
 
 -- A font that was read for a key of the set: it is what the files tell, and there is room for its bitmaps.
 pub record IsRead (set : FontSet) (key : Key) (old : Told) (state : State) : Type 0 where
@@ -69,6 +70,7 @@ pub record IsRead (set : FontSet) (key : Key) (old : Told) (state : State) : Typ
   pub tells : WhereHeld old.held (λ held. FontOf held set.units set.want key state)
   pub sound : IsSound state
   pub room : raster_bytes set.fonts + raster_bytes_in state ≤ 2 ^ 30
+  pub wanted : HasWanted set.want state
 
 -- the state of one font is put in its place
 abbrev pub with_state : List Entry → ℕ → State → List Entry

@@ -15,7 +15,9 @@ pub mod Files
 pub mod FontFaults
 pub mod Tree
 pub mod Expand
+pub mod Shapes
 pub mod LoadFaults
+pub mod Gains
 pub mod Search
 pub mod Laws
 pub mod Progress

@@ -1,6 +1,7 @@
 -- Why the fonts of a page are refused, by the set that the call leaves.
 use Rattle.std.specs.Prelude.{◌≡◌, ◌≢◌, ◌≤◌, ◌<◌, ◌⊎◌, ℕ, ℤ, pos, List, [], ◌∷◌, ◌++◌, length, Option, Some, None}
 use Rattle.dv_base.specs.FileName.{text_of}
+use Rattle.dv_base.specs.Shelf.{Told}
 use Rattle.dv_base.specs.declared.font_id.Spot.{Spot}
 use Rattle.dv_base.specs.declared.font_id.Spot.TheVariants as spot
 use Rattle.dv_base.specs.Scale.{scaled}
@@ -13,10 +14,13 @@ use Rattle.pk_raster.specs.Font.{Font, Known, glyph_at}
 use Rattle.pk_raster.specs.Font.Known.{Nothing, Large}
 use Rattle.font_set.specs.Key.{Key}
 use Rattle.font_set.specs.LocalKey.{local_design, local_key}
-use Rattle.font_set.specs.Fonts.{State, FontSet, place_of, state_at, size_at, width_at, packet_at, IsVirtual}
-use Rattle.font_set.specs.Programs.{Named, Scope, Program, HasNumber, program_at, key_of_first, id_of}
+use Rattle.font_set.specs.Fonts.{State, FontSet, place_of, key_at, state_at, size_at, width_at, packet_at, IsVirtual}
+use Rattle.font_set.specs.Programs.{Named, Scope, Program, HasNumber, key_in, program_at, key_of_first, id_of}
+use Rattle.font_set.specs.Locals.{BadNumber, BadFirst}
+use Rattle.font_set.specs.FontFaults.{IsFull, NotLoaded}
 use Rattle.font_set.specs.Acts.{IsReached}
 use Rattle.font_set.specs.Frames.{Char, selected, acts_of, body}
+use Rattle.font_set.specs.declared.fault.FontKeyParts.{FontKeyParts}
 use Rattle.font_set.specs.declared.fault.FontFault.{FontFault}
 use Rattle.font_set.specs.declared.fault.FontFault.TheVariants as font
 use Rattle.font_set.specs.declared.fault.LoadFault.{LoadFault}
@@ -87,12 +91,43 @@ look_in (State.Virtual tfm vf) code = None
 unfoldable pub look_at : FontSet → ℕ → ℕ → Option Known
 look_at set id code = look_in (state_at set id) code
 
--- LoadFault's own sentences, for the frames of a page. (What stands in files is FontFault's.)
-abbrev pub LoadFaultIs : FontSet → Program → LoadFault → Type 0
-LoadFaultIs set page (load.UndefinedFont s) = InFrame set page s SelectsNone
-LoadFaultIs set page (load.NoFont s) = InFrame set page s SetsNowhere
-LoadFaultIs set page (load.NoChar id z) = InSome set page (SetsIn set id z) × HasNoWidth set id z
-LoadFaultIs set page (load.NoPacket id code) = InSome set page (SetsIn set id (pos code)) × IsVirtual (state_at set id) × (packet_at set id code ≡ None)
-LoadFaultIs set page (load.NoGlyph id code) = InSome set page (SetsIn set id (pos code)) × (look_at set id code ≡ Some Nothing)
-LoadFaultIs set page (load.GlyphTooBig id code bytes) = InSome set page (SetsIn set id (pos code)) × (look_at set id code ≡ Some (Large bytes))
-LoadFaultIs set page (load.Font f) = Unit {0}
+-- ---- what a page needs
+
+-- the frame begins in the font of this key, or a command of the frame selects it
+abbrev pub SelectsKey : Key → Program → Type 0
+SelectsKey key program =
+    (key_of_first program.first ≡ Some key)
+    ⊎ ((at : ℕ) × (c : CommandOf program at) × (k : ℤ) × (c.command ≡ Fnt k) × (key_in program.scope.fonts k ≡ Some key))
+
+-- The font must be known: it is selected in a frame of the page.
+abbrev pub MustKnow : FontSet → Program → Key → Type 0
+MustKnow set page key = InSome set page (SelectsKey key)
+
+-- The font must be loaded: a character is set in it in a frame of the page.
+abbrev pub MustLoad : FontSet → Program → ℕ → Type 0
+MustLoad set page id = (z : ℤ) × InSome set page (SetsIn set id z)
+
+-- ---- faults
+
+-- A packet of this font begins in, or selects, a local font with these parts, which has a size that isn't as it should be.
+abbrev pub SelectsBad : FontSet → ℕ → FontKeyParts → Program → Type 0
+SelectsBad set id parts program = BadFirst set id parts ⊎ ((at : ℕ) × (c : CommandOf program at) × (k : ℤ) × (c.command ≡ Fnt k) × BadNumber set id k parts)
+
+-- What a fault of a font says, where the shelf told this before the call, and this after it: a packet of the page selects the local
+-- font; the key is selected in a frame of the page, 1,000 are known, and this one isn't; or the font must be loaded, and it can't be.
+-- Want of memory says nothing.
+abbrev pub FontFaultIs : FontSet → Program → Told → Told → FontFault → Type 0
+FontFaultIs set page old new (font.BadSize parts) = (id : ℕ) × (code : ℕ) × (program : Program) × PacketOf set page id code program × SelectsBad set id parts program
+FontFaultIs set page old new font.TooManyFonts = (key : Key) × MustKnow set page key × IsFull set.fonts key
+FontFaultIs set page old new font.OutOfMemory = Unit {0}
+FontFaultIs set page old new f = (id : ℕ) × MustLoad set page id × NotLoaded set (key_at set id) old new f
+
+-- What each fault says of the frames of the page.
+abbrev pub LoadFaultIs : FontSet → Program → Told → Told → LoadFault → Type 0
+LoadFaultIs set page old new (load.UndefinedFont s) = InFrame set page s SelectsNone
+LoadFaultIs set page old new (load.NoFont s) = InFrame set page s SetsNowhere
+LoadFaultIs set page old new (load.NoChar id z) = InSome set page (SetsIn set id z) × HasNoWidth set id z
+LoadFaultIs set page old new (load.NoPacket id code) = InSome set page (SetsIn set id (pos code)) × IsVirtual (state_at set id) × (packet_at set id code ≡ None)
+LoadFaultIs set page old new (load.NoGlyph id code) = InSome set page (SetsIn set id (pos code)) × (look_at set id code ≡ Some Nothing)
+LoadFaultIs set page old new (load.GlyphTooBig id code bytes) = InSome set page (SetsIn set id (pos code)) × (look_at set id code ≡ Some (Large bytes))
+LoadFaultIs set page old new (load.Font f) = FontFaultIs set page old new f

@@ -1,5 +1,6 @@
 -- The search for the fonts of a page: frames as they stand in bytes.
 use Rattle.std.specs.Prelude.{◌≡◌, ◌≢◌, ◌<◌, ◌≤◌, ◌⊎◌, ℕ, zero, suc, ◌+◌, ℤ, pos, Bool, true, false, List, [], ◌∷◌, ◌++◌, map, length, drop, reverse, Option, Some, None, slice_get, slice_range, nat_eq, fold, if◌then◌else◌}
+use Rattle.dv_base.specs.Shelf.{Told}
 use Rattle.dv_base.specs.declared.font_id.Spot.{Spot}
 use Rattle.dv_base.specs.declared.font_id.Spot.TheVariants as spot
 use Rattle.dvi_ops.specs.Command.{Command, Definition}
@@ -7,13 +8,14 @@ use Rattle.dvi_ops.specs.Command.Command.{Set, Put, Fnt}
 use Rattle.dvi_ops.specs.Placed.{Placed, Lexes}
 use Rattle.dvi_doc.specs.declared.font.FontKey.{FontKey}
 use Rattle.font_set.specs.Key.{Key, IsKey, same_key, blank_key}
-use Rattle.font_set.specs.Fonts.{State, Entry, FontSet, place_of, state_at, size_at, packet_at, width_at, IsLoaded, IsVirtual}
+use Rattle.font_set.specs.Fonts.{State, Entry, FontSet, place_of, key_at, state_at, size_at, packet_at, width_at, IsLoaded, IsVirtual}
 use Rattle.dvi_ops.specs.Reading.{commands_in}
-use Rattle.font_set.specs.Programs.{Named, Scope, Program, HasNumber, key_in, page_program, program_at, locals_at}
+use Rattle.font_set.specs.Programs.{Named, Scope, Program, HasNumber, key_in, key_of_first, page_program, program_at, locals_at}
 use Rattle.indexmap.specs.IndexSet.{insert_key}
 use Rattle.dvi_doc.specs.View.{Outline, ReadDoc}
 use Rattle.font_set.specs.Growth.{Extends, Learnt, Loaded, keys_now}
-use Rattle.font_set.specs.Locals.{FirstAnswer}
+use Rattle.font_set.specs.Locals.{FirstAnswer, BadNumber, BadFirst}
+use Rattle.font_set.specs.FontFaults.{IsFull, NotKnown, NotLoaded}
 use Rattle.font_set.specs.Acts.{Act, Inside}
 use Rattle.font_set.specs.Frames.{Char, FontAct, acts_of, body}
 use Rattle.font_set.specs.Covers.{IsShown}
@@ -21,6 +23,8 @@ use Rattle.font_set.specs.Views.{key_of}
 use Rattle.font_set.specs.LoadFaults.{IsCharCommand, HasNoWidth, look_at, look_by}
 use Rattle.pk_raster.specs.Font.{Font}
 use Rattle.pk_raster.specs.Font.Known.{Nothing, Large}
+use Rattle.font_set.specs.declared.fault.FontFault.{FontFault}
+use Rattle.font_set.specs.declared.fault.FontFault.TheVariants as font
 use Rattle.font_set.specs.declared.fault.LoadFault.{LoadFault}
 use Rattle.font_set.specs.declared.fault.LoadFault.TheVariants as load
 use Rattle.font_set.specs.declared.agenda.Home.{Home}
@@ -115,10 +119,20 @@ pub record Next (from at next : ℕ) (bytes : List ℕ) (rest : List Placed) : T
 abbrev pub IsTurn : Scope → ℕ → ℕ → List ℕ → Turn → Type 0
 IsTurn scope from at bytes t = (rest : List Placed) → Lexes (from + at) (drop at bytes) rest → (n : Next from at t.next bytes rest) × Tells scope n.command t.does
 
-abbrev pub IsTurnFault : Home → Scope → ℕ → ℕ → List ℕ → LoadFault → Type 0
-IsTurnFault h scope from at bytes (load.UndefinedFont s) = (s ≡ spot_at h (from + at)) × ((rest : List Placed) → Lexes (from + at) (drop at bytes) rest → (c : Command) × (behind : List Placed) × (rest ≡ record { place = from + at; command = c } ∷ behind) × (k : ℤ) × (c ≡ Fnt k) × (HasNumber scope.fonts k → ⊥))
-IsTurnFault h scope from at bytes (load.Font f) = Unit {0}
-IsTurnFault h scope from at bytes _ = ⊥
+-- the number names a local font of the packet's font, a size of which isn't as it should be
+abbrev pub BadAt : FontSet → Home → ℤ → FontFault → Type 0
+BadAt set home.Page k f = ⊥
+BadAt set (home.Packet id code) k (font.BadSize parts) = BadNumber set id k parts
+BadAt set (home.Packet id code) k _ = ⊥
+
+-- the next of the commands selects a font, whose number is like this
+abbrev pub SelectsAt : ℕ → ℕ → List ℕ → (ℤ → Type 0) → Type 0
+SelectsAt from at bytes P = (rest : List Placed) → Lexes (from + at) (drop at bytes) rest → (c : Command) × (behind : List Placed) × (rest ≡ record { place = from + at; command = c } ∷ behind) × (k : ℤ) × (c ≡ Fnt k) × P k
+
+abbrev pub IsTurnFault : FontSet → Home → Scope → ℕ → ℕ → List ℕ → LoadFault → Type 0
+IsTurnFault set h scope from at bytes (load.UndefinedFont s) = (s ≡ spot_at h (from + at)) × SelectsAt from at bytes (λ k. HasNumber scope.fonts k → ⊥)
+IsTurnFault set h scope from at bytes (load.Font f) = SelectsAt from at bytes (λ k. BadAt set h k f)
+IsTurnFault set h scope from at bytes _ = ⊥
 
 -- why a character of a loaded font can't be shown
 abbrev pub IsCharFault : FontSet → ℕ → ℤ → LoadFault → Type 0
@@ -134,10 +148,40 @@ IsLookFault pk id code (load.NoGlyph i c) = (i ≡ id) × (c ≡ code) × (look_
 IsLookFault pk id code (load.GlyphTooBig i c bytes) = (i ≡ id) × (c ≡ code) × (look_by pk code ≡ Some (Large bytes))
 IsLookFault pk id code _ = ⊥
 
--- why a character can't be met
-abbrev pub MeetFault : FontSet → ℕ → ℤ → LoadFault → Type 0
-MeetFault set id z (load.Font f) = Unit {0}
-MeetFault set id z e = IsCharFault set id z e
+-- The packet of a character of this font and code, which is like this.
+abbrev pub WithPacket : FontSet → ℕ → ℤ → (Program → Type 0) → Type 0
+WithPacket set id z P = (code : ℕ) × (z ≡ pos code) × (code < 256) × (program : Program) × (program_at set id code ≡ Some program) × P program
+
+-- the packet begins in the font of this key
+abbrev pub BeginsIn : FontSet → ℕ → ℤ → Key → Type 0
+BeginsIn set id z key = WithPacket set id z (λ program. key_of_first program.first ≡ Some key)
+
+-- why a packet can't begin
+abbrev pub NoBegin : FontSet → ℕ → ℕ → FontFault → Type 0
+NoBegin set id code (font.BadSize parts) = (program : Program) × (program_at set id code ≡ Some program) × BadFirst set id parts
+NoBegin set id code _ = ⊥
+
+-- the key of the font in which it begins
+abbrev pub IsKeyOf : Option FontKey → Key → Type 0
+IsKeyOf None k = ⊥
+IsKeyOf (Some key) k = k ≡ key_of key
+
+-- why that font isn't made known
+abbrev pub FirstNotKnown : FontSet → Option FontKey → FontFault → Type 0
+FirstNotKnown set None f = ⊥
+FirstNotKnown set (Some key) f = NotKnown set.fonts (key_of key) f
+
+-- why a packet isn't opened
+abbrev pub OpenFault : FontSet → ℕ → ℤ → FontFault → Type 0
+OpenFault set id z (font.BadSize parts) = WithPacket set id z (λ program. BadFirst set id parts)
+OpenFault set id z font.TooManyFonts = (key : Key) × BeginsIn set id z key × IsFull set.fonts key
+OpenFault set id z font.OutOfMemory = Unit {0}
+OpenFault set id z _ = ⊥
+
+-- why a character can't be met, where the shelf told this before and this now
+abbrev pub MeetFault : FontSet → ℕ → ℤ → Told → Told → LoadFault → Type 0
+MeetFault set id z old new (load.Font f) = OpenFault set id z f ⊎ NotLoaded set (key_at set id) old new f
+MeetFault set id z old new e = IsCharFault set id z e
 
 -- the key may be made known
 abbrev pub IsFirstKey : Option FontKey → Type 0

@@ -10,8 +10,14 @@ use Rattle.vf_packets.specs.Font.{LocalFont, VirtualFont, Apart, packet_of}
 use Rattle.font_set.specs.Key.{Key, IsKey}
 use Rattle.font_set.specs.Fonts.{State, Entry, FontSet, packet_in, raster_bytes}
 use Rattle.font_set.specs.Views.{key_of}
+use Rattle.pk_raster.specs.Font as pk_font
+use Rattle.pk_raster.specs.Font.{Bitmap, glyph_at}
+use Rattle.pk_raster.specs.Font.Known.{Bits}
+use Rattle.pk_raster.specs.Laws.{AreRows}
 use Rattle.font_set.specs.declared.font.Font.{Font}
 use Rattle.font_set.specs.declared.font.Font.TheVariants as font
+use Rattle.font_set.specs.declared.want.Want.{Want}
+use Rattle.font_set.specs.declared.want.Want.TheVariants as wants
 
 abbrev pub state_of : Font → State
 state_of font.Known = State.Known
@@ -46,14 +52,27 @@ pub record IsFit (vf : VirtualFont) : Type 0 where
 abbrev pub AreFine : Table → Type 0
 AreFine tfm = (code : ℕ) → code < 256 → IsFine (width_in tfm code)
 
+-- Each bitmap has whole rows, where there are bitmaps.
+abbrev pub AreDrawn : Option pk_font.Font → Type 0
+AreDrawn None = Unit {0}
+AreDrawn (Some pk) = (code : ℕ) (bitmap : Bitmap) → glyph_at pk code ≡ Bits bitmap → AreRows bitmap
+
 abbrev pub IsSound : State → Type 0
 IsSound State.Known = Unit {0}
-IsSound (State.Real tfm pk) = AreFine tfm
+IsSound (State.Real tfm pk) = AreFine tfm × AreDrawn pk
 IsSound (State.Virtual tfm vf) = AreFine tfm × IsFit vf
 
 pub record IsStored (e : Entry) : Type 0 where
   pub key : IsKey e.key
   pub sound : IsSound e.state
+
+-- where bitmaps are wanted, a real font has them
+abbrev pub HasWanted : Want → State → Type 0
+HasWanted wants.Rasters (State.Real tfm None) = ⊥
+HasWanted want state = Unit {0}
+
+abbrev pub HaveWanted : Want → List Entry → Type 0
+HaveWanted want es = AllByRecursion (λ (e : Entry). HasWanted want e.state) es
 
 -- The fonts of a set: not more than there are ids, each as it should be, and their bitmaps within the limit.
 pub record AreStored (es : List Entry) : Type 0 where

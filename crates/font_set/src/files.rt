@@ -1,5 +1,5 @@
 //! The files of a font, and loading it from them.
-ghost use Rattle.std.specs.Prelude.{◌≡◌, ◌<◌, ◌≤◌, ◌+◌, ◌-◌, ◌++◌, ◌^◌, ℕ, length, IfOk, IfErr, OnOk, OnErr, codes, decimal};
+ghost use Rattle.std.specs.Prelude.{◌≡◌, ◌<◌, ◌≤◌, ◌+◌, ◌-◌, ◌++◌, ◌^◌, ℕ, length, Some, IfOk, IfErr, OnOk, OnErr, codes, decimal};
 ghost use Rattle.dv_base.specs.FileName.{text_of};
 ghost use Rattle.dv_base.specs.Shelf.{Keeps, WhereHeld};
 ghost use Rattle.pk_raster.specs.Font.{size};
@@ -11,7 +11,7 @@ ghost use Rattle.font_set.specs.FontOf.{HasTfm, HasVf, HasPk, Loads, WantsPacket
 ghost use Rattle.font_set.specs.FontFaults.{NotLoaded, raster_room, IsFirstPk};
 ghost use Rattle.font_set.specs.Files.{ReadGives, NotRead, CandidateGives, VfGives, IsPkFound, IsRealRead, IsRead, with_state};
 ghost use Rattle.font_set.specs.Growth.{Loaded};
-ghost use Rattle.font_set.specs.Stored.{IsSound, AreFine, state_of};
+ghost use Rattle.font_set.specs.Stored.{HasWanted, IsSound, AreFine, AreDrawn, state_of};
 ghost use Rattle.font_set.specs.Views.{key_of};
 
 use crate::fault::FontFault;
@@ -22,7 +22,7 @@ use arrayvec::ArrayString;
 use dv_base::{FileName, FontId, Got, Shelf};
 use dvi_doc::FontKey;
 use itoa::Buffer;
-use pk_raster::{Pk, PkFault};
+use pk_raster::{Pk, PkFault, whole_rows};
 use std::alloc::Global;
 use tfm_widths::{Tfm, TfmFault};
 use vf_packets::{Vf, VfFault};
@@ -208,10 +208,12 @@ impl Fonts {
         requires key { IsKey (key_of key.now) }
         requires wanted { WantsRasters self.now.want }
         ensures pk { IfOk result (λ pk. WhereHeld (S.told shelf.old).held (λ held. HasPk held self.now.units (key_of key.now) pk)) }
+        ensures drawn { IfOk result (λ pk. AreDrawn (Some pk)) }
         ensures room { IfOk result (λ pk. raster_bytes self.now.fonts + size pk ≤ 2 ^ 30) }
         ensures fault { IfErr result (NotLoaded self.now (key_of key.now) (S.told shelf.old) (S.told shelf.new)) }
         ensures keeps { Keeps (S.told shelf.old) (S.told shelf.new) }
     {
+        whole_rows();
         let (name, bytes) = self.find_pk(shelf, key)?;
         match Pk::read(self.alloc, &bytes, MOST_RASTER_BYTES - self.kept_bytes) {
             Ok(pk) => Ok(pk),
@@ -262,6 +264,7 @@ impl Fonts {
         requires given { id < length self.old.fonts }
         requires sound { IsSound (state_of font) }
         requires room { raster_bytes self.old.fonts + raster_bytes_in (state_of font) ≤ 2 ^ 30 }
+        requires wanted { HasWanted self.old.want (state_of font) }
         ensures { self.new ≡ record self.old { fonts = with_state self.old.fonts id (state_of font) } }
     {
         self.kept_bytes += raster_bytes(&font);

@@ -37,11 +37,11 @@ impl Model for Fonts {
 
     ghost Value = { FontSet };
 
-    ghost use Rattle.font_set.specs.Stored.{entries_of, AreStored, AreUnits};
+    ghost use Rattle.font_set.specs.Stored.{entries_of, AreStored, AreUnits, HaveWanted};
 
     ghost view = { λ f. record { units = f.units; want = f.want; fonts = entries_of f.table.entries } };
 
-    ghost invariant = { λ f. AreUnits f.units × (f.conv ≡ pixels_of_one f.units) × AreStored (entries_of f.table.entries) × (f.kept_bytes ≡ raster_bytes (entries_of f.table.entries)) };
+    ghost invariant = { λ f. AreUnits f.units × (f.conv ≡ pixels_of_one f.units) × AreStored (entries_of f.table.entries) × (f.kept_bytes ≡ raster_bytes (entries_of f.table.entries)) × HaveWanted f.want (entries_of f.table.entries) };
 }
 
 /// The id of the font at a place.

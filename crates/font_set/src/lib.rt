@@ -30,5 +30,5 @@ mod want;
 
 pub use fault::{FontFault, FontKeyParts, LoadFault};
 pub use fonts::Fonts;
-pub use laws::one_key;
+pub use laws::{covers_later, one_key, order_of_tree};
 pub use want::{Kind, Want};

@@ -3,7 +3,7 @@
 //! A frame is the page or a packet. The search goes over the commands of a frame; where a character is set whose packet wasn't run
 //! before, it goes over that packet first. So each packet is read once, whatever runs it, and packets may stand in one another without
 //! limit, or run themselves.
-ghost use Rattle.std.specs.Prelude.{◌≡◌, ◌<◌, ◌≤◌, ◌^◌, ◌+◌, ◌-◌, ◌*◌, MatchBool, ℕ, pos, List, [], ◌∷◌, length, None, IfOk, IfErr, OnOk, OnErr};
+ghost use Rattle.std.specs.Prelude.{◌≡◌, ◌<◌, ◌≤◌, ◌^◌, ◌+◌, ◌-◌, ◌*◌, MatchBool, ℕ, pos, List, [], ◌∷◌, length, Option, None, IfOk, IfErr, OnOk, OnErr};
 ghost use Rattle.dvi_ops.specs.Placed.{Lexes};
 ghost use Rattle.font_set.specs.Key.{IsKey};
 ghost use Rattle.font_set.specs.Fonts.{FontSet, state_at, width_at, IsLoaded};
@@ -12,11 +12,12 @@ ghost use Rattle.font_set.specs.Frames.{acts_of};
 ghost use Rattle.font_set.specs.Views.{key_of};
 ghost use Rattle.font_set.specs.declared.agenda.Home.TheVariants as home;
 ghost use Rattle.font_set.specs.declared.turn.Does.TheVariants as does;
+ghost use Rattle.dv_base.specs.Shelf.{Contents, Told, Keeps};
 ghost use Rattle.font_set.specs.LoadFaults.{LoadFaultIs};
+ghost use Rattle.font_set.specs.Gains.{Gains, GainsFor};
 ghost use Rattle.dvi_doc.specs.View.{IsRead};
-ghost use Rattle.font_set.specs.Growth.{Extends};
 ghost use Rattle.font_set.specs.Locals.{FirstAnswer};
-ghost use Rattle.font_set.specs.Search.{LearntFirst, IsFirstKey, IsCharFault, IsLookFault, MeetFault, InOrder, program_or, bytes_of, page_in, page_of};
+ghost use Rattle.font_set.specs.Search.{LearntFirst, IsFirstKey, IsCharFault, IsLookFault, MeetFault, OpenFault, BeginsIn, NoBegin, IsKeyOf, FirstNotKnown, InOrder, program_or, bytes_of, page_in, page_of};
 ghost use Rattle.font_set.specs.Found.{FoundAt, Reads, Steps, Opens, Meets, IsPage, IsPlaced, WasMet, LoadsSet};
 
 use crate::agenda::{Agenda, Home, Place};
@@ -102,6 +103,7 @@ impl Fonts {
         ensures short { IfOk result (λ b. b.end ≤ 4194304) }
         ensures lexed { OnOk result (Lexes 0 (bytes_of self.now [] (home.Packet id code)) (program_or self.now id code).commands) }
         ensures first { IfOk result (λ b. FirstAnswer (program_or self.now id code).first b.first) }
+        ensures fault { IfErr result (NoBegin self.now id code) }
     {
         one_reading();
         let Some(bytes) = self.packet(id, code) else {
@@ -124,6 +126,8 @@ impl Fonts {
         requires { IsFirstKey first }
         ensures learnt { IfOk result (λ o. LearntFirst self.old self.new first o) }
         ensures same { OnErr result (self.new ≡ self.old) }
+        ensures gains { (held : Option Contents) → Gains held self.old self.new (λ i. ⊥) (IsKeyOf first) }
+        ensures fault { IfErr result (FirstNotKnown self.old first) }
     {
         match first {
             None => Ok(None),
@@ -135,12 +139,12 @@ impl Fonts {
     }
 
     /// Opens the packet of a character.
-    fn open_packet(&mut self, id: FontId, code: u8, agenda: &mut Agenda) -> Result<(), LoadFault>
+    fn open_packet(&mut self, id: FontId, code: u8, agenda: &mut Agenda) -> Result<(), FontFault>
         requires given { id < length self.old.fonts }
         requires shown { IsShown (state_at self.old id) code }
         ensures opens { OnOk result (Opens self.old self.new id code agenda.old agenda.new) }
-        ensures extends { OnErr result (Extends self.old self.new) }
-        ensures fault { IfErr result (MeetFault self.new id (pos code)) }
+        ensures gains { (held : Option Contents) → Gains held self.old self.new (λ i. ⊥) (BeginsIn self.new id (pos code)) }
+        ensures fault { IfErr result (OpenFault self.new id (pos code)) }
     {
         agenda.meet(id, code);
         let begin = self.begin(id, code)?;
@@ -168,12 +172,14 @@ impl Fonts {
     ) -> Result<(), LoadFault>
         requires given { id < length self.old.fonts }
         ensures meets { OnOk result (Meets self.old self.new id z agenda.old agenda.new) }
-        ensures extends { OnErr result (Extends self.old self.new) }
-        ensures fault { IfErr result (MeetFault self.new id z) }
+        ensures gains { Gains (S.told shelf.old).held self.old self.new (λ i. i ≡ id) (BeginsIn self.new id z) }
+        ensures fault { IfErr result (MeetFault self.new id z (S.told shelf.old) (S.told shelf.new)) }
+        ensures keeps { Keeps (S.told shelf.old) (S.told shelf.new) }
     {
         self.load(shelf, id)?;
         let code = self.shown(id, z)?;
-        self.open_packet(id, code, agenda)
+        self.open_packet(id, code, agenda)?;
+        Ok(())
     }
 
     /// Passes over a command that is nothing to fonts.
@@ -187,7 +193,7 @@ impl Fonts {
         requires read { Reads sheet.now self.now place.now turn.now }
         requires does { turn.now.does ≡ does.Nothing }
         ensures steps { OnOk result (Steps sheet.now place.now self.now self.now agenda.old agenda.new) }
-        ensures fault { IfErr result (LoadFaultIs self.now sheet.now.page) }
+        ensures fault { IfErr result (λ e. (old new : Told) → LoadFaultIs self.now sheet.now.page old new e) }
     {
         agenda.push(&moved(place, turn.next, place.font))?;
         Ok(())
@@ -205,9 +211,10 @@ impl Fonts {
         requires read { Reads sheet.now self.old place.now turn.now }
         requires does { turn.now.does ≡ does.Selects key.now }
         requires key { IsKey (key_of key.now) }
+        requires found { (old : FontSet) × FoundAt sheet.now old self.old agenda.old.met (place.now ∷ agenda.old.places) }
         ensures steps { OnOk result (Steps sheet.now place.now self.old self.new agenda.old agenda.new) }
-        ensures extends { OnErr result (Extends self.old self.new) }
-        ensures fault { IfErr result (LoadFaultIs self.new sheet.now.page) }
+        ensures gains { (held : Option Contents) → GainsFor held self.old self.new sheet.now.page }
+        ensures fault { IfErr result (λ e. (old new : Told) → LoadFaultIs self.new sheet.now.page old new e) }
     {
         let id = self.know(key)?;
         let font = Some(id.number());
@@ -229,8 +236,9 @@ impl Fonts {
         requires does { turn.now.does ≡ does.Sets z }
         requires found { (old : FontSet) × FoundAt sheet.now old self.old agenda.old.met (place.now ∷ agenda.old.places) }
         ensures steps { OnOk result (Steps sheet.now place.now self.old self.new agenda.old agenda.new) }
-        ensures extends { OnErr result (Extends self.old self.new) }
-        ensures fault { IfErr result (LoadFaultIs self.new sheet.now.page) }
+        ensures gains { GainsFor (S.told shelf.old).held self.old self.new sheet.now.page }
+        ensures fault { IfErr result (LoadFaultIs self.new sheet.now.page (S.told shelf.old) (S.told shelf.new)) }
+        ensures keeps { Keeps (S.told shelf.old) (S.told shelf.new) }
     {
         let Some(number) = place.font else {
             return Err(LoadFault::NoFont(self.spot(sheet, place)));
@@ -254,8 +262,9 @@ impl Fonts {
         requires inside { place.now.at < place.now.end }
         requires found { (old : FontSet) × FoundAt sheet.now old self.old agenda.old.met (place.now ∷ agenda.old.places) }
         ensures steps { OnOk result (Steps sheet.now place.now self.old self.new agenda.old agenda.new) }
-        ensures extends { OnErr result (Extends self.old self.new) }
-        ensures fault { IfErr result (LoadFaultIs self.new sheet.now.page) }
+        ensures gains { GainsFor (S.told shelf.old).held self.old self.new sheet.now.page }
+        ensures fault { IfErr result (LoadFaultIs self.new sheet.now.page (S.told shelf.old) (S.told shelf.new)) }
+        ensures keeps { Keeps (S.told shelf.old) (S.told shelf.new) }
     {
         let turn = self.turn(sheet, place)?;
         let does = turn.does;
@@ -269,11 +278,12 @@ impl Fonts {
     /// Goes over all frames of a page.
     fn search<S: Shelf>(&mut self, shelf: &mut S, sheet: &Sheet<'_>) -> Result<(), LoadFault>
         requires { IsPage sheet.now }
-        ensures extends { Extends self.old self.new }
         ensures covers { OnOk result (Covers self.new (acts_of sheet.now.page)) }
         ensures order { OnOk result (InOrder self.old self.new sheet.now.page) }
         ensures loads { OnOk result (LoadsSet self.old self.new (acts_of sheet.now.page)) }
-        ensures fault { IfErr result (LoadFaultIs self.new sheet.now.page) }
+        ensures gains { GainsFor (S.told shelf.old).held self.old self.new sheet.now.page }
+        ensures fault { IfErr result (LoadFaultIs self.new sheet.now.page (S.told shelf.old) (S.told shelf.new)) }
+        ensures keeps { Keeps (S.told shelf.old) (S.told shelf.new) }
     {
         let alloc = self.alloc;
         let mut agenda = Agenda::new(alloc, &first_place(sheet))?;
@@ -288,7 +298,7 @@ impl Fonts {
 
     /// Makes known each font that a page, or a packet that the page runs, selects, and loads each one in which a character is set.
     /// The set then covers the page. No font is loaded in which no character is set, and keys become known in the order in which the
-    /// page and its packets select them.
+    /// page and its packets select them. Where the page is refused, the fonts that became known or were loaded until then stay so.
     pub fn load_page<S: Shelf>(
         &mut self,
         shelf: &mut S,
@@ -298,11 +308,12 @@ impl Fonts {
         requires read { IsRead doc.now }
         requires short { length doc.now.bytes < 2 ^ 31 }
         requires page { page < length doc.now.pages }
-        ensures extends { Extends self.old self.new }
         ensures covers { OnOk result (Covers self.new (acts_of (page_of doc.now page))) }
         ensures order { OnOk result (InOrder self.old self.new (page_of doc.now page)) }
         ensures loads { OnOk result (LoadsSet self.old self.new (acts_of (page_of doc.now page))) }
-        ensures fault { IfErr result (LoadFaultIs self.new (page_of doc.now page)) }
+        ensures gains { GainsFor (S.told shelf.old).held self.old self.new (page_of doc.now page) }
+        ensures fault { IfErr result (LoadFaultIs self.new (page_of doc.now page) (S.told shelf.old) (S.told shelf.new)) }
+        ensures keeps { Keeps (S.told shelf.old) (S.told shelf.new) }
     {
         let (first, bytes) = page_bytes(doc, page);
         let sheet = Sheet { doc, first, bytes };

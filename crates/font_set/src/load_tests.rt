@@ -30,6 +30,12 @@ const PK: [u8; 70] = [
     0, 0, 1, 0, 0, 0, 0, 0, 0, 0, 0, 245,
 ];
 
+/// The same file up to the end of code 65.
+const PK_OF_ONE: [u8; 33] = [
+    247, 89, 0, 0, 160, 0, 0, 0, 0, 0, 0, 0, 0, 0, 0, 0, 0, 0, 0, 224, 10, 65, 8, 0, 0, 21, 3, 5,
+    0, 4, 171, 140, 245,
+];
+
 /// A document of one page with these commands, and one font of 10 points, of number 0 and this name.
 fn document(alloc: Global, name: &str, body: &[u8]) -> Result<Vec<u8>, AllocError> {
     let mut bytes = Vec::from_slice(alloc, &FRONT)?;
@@ -51,9 +57,9 @@ fn document(alloc: Global, name: &str, body: &[u8]) -> Result<Vec<u8>, AllocErro
 }
 
 /// A VF file whose code 65 sets the code 65 of its local font, which has this name and its own size.
-fn virtual_font(alloc: Global, local: &str) -> Result<Vec<u8>, AllocError> {
+fn virtual_font(alloc: Global, local: &str, scale: u8) -> Result<Vec<u8>, AllocError> {
     let mut bytes = Vec::from_slice(alloc, &[247, 202, 0, 0, 0, 0, 0, 0, 160, 0, 0])?;
-    bytes.extend_from_slice(&[243, 0, 0, 0, 0, 0, 0, 16, 0, 0, 0, 160, 0, 0, 0])?;
+    bytes.extend_from_slice(&[243, 0, 0, 0, 0, 0, 0, scale, 0, 0, 0, 160, 0, 0, 0])?;
     bytes.push(u8::try_from(local.len()).unwrap_or(0))?;
     bytes.extend_from_slice(local.as_bytes())?;
     bytes.extend_from_slice(&[1, 65, 0, 0, 0, 65, 248])?;
@@ -72,6 +78,7 @@ fn word(fault: &LoadFault) -> &'static str {
         LoadFault::GlyphTooBig(..) => "another size",
         LoadFault::Font(FontFault::TooManyFonts) => "TooManyFonts",
         LoadFault::Font(FontFault::Missing(_)) => "Missing",
+        LoadFault::Font(FontFault::BadSize(_)) => "BadSize",
         LoadFault::Font(_) => "another fault",
     }
 }
@@ -102,60 +109,46 @@ fn loading(alloc: Global, shelf: &mut MemShelf, bytes: &[u8]) -> Option<(&'stati
     Some((word, fonts.count()))
 }
 
-/// Commands of a page in one real font, and what loading the page answers. The byte 171 selects the font.
-const PAGES: [(&str, &str); 6] = [
-    ("ab41", "loaded"),
-    ("ab", "loaded"),
-    ("41", "NoFont"),
-    ("ac41", "UndefinedFont"),
-    ("ab43", "NoChar"),
-    ("ab42", "GlyphTooBig"),
-];
-
-/// The value of a hexadecimal digit.
-fn digit(byte: u8) -> u8 {
-    match byte {
-        b'0'..=b'9' => byte - b'0',
-        b'a'..=b'f' => byte - b'a' + 10,
-        _ => 0,
-    }
-}
-
-/// The bytes that hexadecimal digits spell.
-fn spelled(alloc: Global, digits: &str) -> Result<Vec<u8>, AllocError> {
-    let mut bytes = Vec::new(alloc);
-    let mut value = 0u8;
-    for (place, byte) in digits.bytes().enumerate() {
-        value = value.wrapping_mul(16).wrapping_add(digit(byte));
-        if place % 2 == 1 {
-            bytes.push(value)?;
-        }
-    }
-    Ok(bytes)
-}
-
-#[test]
-fn pages_in_a_real_font(rt: HostRuntime) -> Result<(), Fail> {
-    let alloc = rt.alloc();
+/// A shelf with the real fonts f and g, of which g has no bitmap of code 66, and the virtual fonts v, which sets code 65 of itself, and
+/// b, whose local font has the size 0. All have the widths of codes 65 and 66.
+fn small_shelf(alloc: Global) -> Result<MemShelf, AllocError> {
     let mut shelf = MemShelf::new(alloc);
     shelf.add("f.tfm", &TFM)?;
     shelf.add("f.300pk", &PK)?;
-    for (digits, answer) in PAGES {
-        let body = spelled(alloc, digits)?;
-        let bytes = document(alloc, "f", &body)?;
-        let Some((word, known)) = loading(alloc, &mut shelf, &bytes) else {
-            panic!(rt; "no document");
+    shelf.add("g.tfm", &TFM)?;
+    shelf.add("g.300pk", &PK_OF_ONE)?;
+    shelf.add("v.tfm", &TFM)?;
+    shelf.add("v.vf", &virtual_font(alloc, "v", 16)?)?;
+    shelf.add("b.tfm", &TFM)?;
+    shelf.add("b.vf", &virtual_font(alloc, "f", 0)?)?;
+    Ok(shelf)
+}
+
+/// The font of a document, two commands of its page, what loading the page answers, and how many fonts are known then. The byte 171
+/// selects the font, and 138 does nothing.
+const PAGES: [(&str, [u8; 2], &str, u32); 10] = [
+    ("f", [171, 65], "loaded", 1),
+    ("f", [171, 138], "loaded", 1),
+    ("f", [138, 65], "NoFont", 0),
+    ("f", [172, 65], "UndefinedFont", 0),
+    ("f", [171, 67], "NoChar", 1),
+    ("f", [171, 66], "GlyphTooBig", 1),
+    ("g", [171, 66], "NoGlyph", 1),
+    ("v", [171, 65], "loaded", 1),
+    ("v", [171, 66], "NoPacket", 1),
+    ("b", [171, 65], "BadSize", 1),
+];
+
+#[test]
+fn pages(rt: HostRuntime) -> Result<(), Fail> {
+    let mut shelf = small_shelf(rt.alloc())?;
+    for (name, body, word, known) in PAGES {
+        let bytes = document(rt.alloc(), name, &body)?;
+        let Some((found, count)) = loading(rt.alloc(), &mut shelf, &bytes) else {
+            return Err("no document".into());
         };
-        assert!(rt; word == answer, "{digits}: {word}");
-        assert!(rt;
-            known
-                == if answer == "NoFont" || answer == "UndefinedFont" {
-                    0
-                } else {
-                    1
-                },
-            "{digits}: {known}"
-        );
+        assert_eq!(rt; found, word, "{name} {body:?}");
+        assert_eq!(rt; count, known, "{name} {body:?}");
     }
     Ok(())
 }
@@ -166,7 +159,7 @@ fn chain(alloc: Global, many: u32) -> Result<MemShelf, AllocError> {
     for place in 0..many {
         let next = if place + 1 < many { place + 1 } else { place };
         let local = format!(in alloc; "v{next}")?;
-        let vf = virtual_font(alloc, &local)?;
+        let vf = virtual_font(alloc, &local, 16)?;
         let tfm_name = format!(in alloc; "v{place}.tfm")?;
         let vf_name = format!(in alloc; "v{place}.vf")?;
         shelf.add(&tfm_name, &TFM)?;
@@ -175,22 +168,23 @@ fn chain(alloc: Global, many: u32) -> Result<MemShelf, AllocError> {
     Ok(shelf)
 }
 
+/// How many virtual fonts are in the chain, what loading the page answers, and how many fonts are known then.
+const CHAINS: [(u32, &str, u32); 3] = [
+    (2, "loaded", 2),
+    (1_000, "loaded", 1_000),
+    (1_001, "TooManyFonts", 1_000),
+];
+
 #[test]
 fn chains_of_virtual_fonts(rt: HostRuntime) -> Result<(), Fail> {
-    let alloc = rt.alloc();
-    for (many, answer, known) in [
-        (1u32, "loaded", 1u32),
-        (2, "loaded", 2),
-        (1_000, "loaded", 1_000),
-        (1_001, "TooManyFonts", 1_000),
-    ] {
-        let mut shelf = chain(alloc, many)?;
-        let bytes = document(alloc, "v0", &[171, 65])?;
-        let Some((word, count)) = loading(alloc, &mut shelf, &bytes) else {
-            panic!(rt; "no document");
+    for (many, word, known) in CHAINS {
+        let mut shelf = chain(rt.alloc(), many)?;
+        let bytes = document(rt.alloc(), "v0", &[171, 65])?;
+        let Some((found, count)) = loading(rt.alloc(), &mut shelf, &bytes) else {
+            return Err("no document".into());
         };
-        assert!(rt; word == answer, "{many}: {word}");
-        assert!(rt; count == known, "{many}: {count}");
+        assert_eq!(rt; found, word, "{many}");
+        assert_eq!(rt; count, known, "{many}");
     }
     Ok(())
 }

@@ -1,9 +1,12 @@
 //! What is known of a font and its characters. Each look takes a constant number of steps.
-ghost use Rattle.std.specs.Prelude.{◌≡◌, ◌<◌, ◌≤◌, ◌↔◌, ◌^◌, pos, length, IfSome, IfOk, IfErr, Some, None, MatchOption, IsTrue, unsigned_abs, ◌≤ℤ◌};
+ghost use Rattle.std.specs.Prelude.{◌≡◌, ◌<◌, ◌≤◌, ◌↔◌, ◌^◌, ℕ, pos, length, IfSome, IfOk, IfErr, Some, None, MatchOption, IsTrue, unsigned_abs, ◌≤ℤ◌};
+ghost use Rattle.pk_raster.specs.Font.{Bitmap};
+ghost use Rattle.pk_raster.specs.Laws.{AreRows};
 ghost use Rattle.vf_packets.specs.Programs.{IsProgram};
 ghost use Rattle.font_set.specs.Fonts.{size_at, state_at, space_at, fix_word_in, width_at, pixels_at, packet_at, bitmap_at, IsMismatched};
 ghost use Rattle.font_set.specs.Programs.{id_of, key_in, key_of_first, head_of, locals_at};
 ghost use Rattle.font_set.specs.Locals.{KeyAnswer, FirstAnswer, BadNumber, BadFirst, found_key, named_key};
+ghost use Rattle.font_set.specs.Stored.{HasWanted};
 ghost use Rattle.font_set.specs.Views.{bitmap_of};
 
 use crate::fault::FontKeyParts;
@@ -73,12 +76,23 @@ impl Fonts {
         Some(self.conv.round(width))
     }
 
+    /// There are no more than 1,000 fonts; where bitmaps are wanted, a real font that is loaded has them; and each bitmap has whole rows of
+    /// at most 65,535 bytes. A caller cites what this ensures; the call does nothing.
+    pub fn bitmaps_are_rows(&self)
+        ensures few { length self.now.fonts ≤ 1000 }
+        ensures wanted { (id : ℕ) → HasWanted self.now.want (state_at self.now id) }
+        ensures rows { (id code : ℕ) (bitmap : Bitmap) → bitmap_at self.now id code ≡ Some bitmap → AreRows bitmap }
+    {
+        let _ = &self.alloc;
+    }
+
     /// The bitmap of a character; `None` exactly where the font isn't real, bitmaps aren't wanted, or its PK file has no bitmap
-    /// of at most 65,535 bytes for the code.
+    /// of at most 65,535 bytes for the code. Its rows are whole bytes, with bits 0 behind their pixels.
     #[tactic(auto, unfolding(crate::specs::Fonts::bitmap_at))]
     pub fn glyph(&self, id: FontId, code: u8) -> Option<Glyph<'_>>
         requires given { id < length self.now.fonts }
-        ensures { MatchOption result (bitmap_at self.now id code ≡ None) (λ g. bitmap_at self.now id code ≡ Some (bitmap_of g)) }
+        ensures value { MatchOption result (bitmap_at self.now id code ≡ None) (λ g. bitmap_at self.now id code ≡ Some (bitmap_of g)) }
+        ensures rows { IfSome result (λ g. AreRows (bitmap_of g)) }
     {
         match self.font(id).pk()?.look(code) {
             Look::Here(glyph) => Some(glyph),

@@ -1,11 +1,11 @@
 //! Fonts from files that were put together here.
 
-ghost use Rattle.std.specs.Prelude.{◌≡◌, ◌≤ℤ◌, [], pos, IfSome};
+ghost use Rattle.std.specs.Prelude.{◌≡◌, [], IfSome};
 ghost use Rattle.font_set.specs.Key.{IsKey, IsUnits};
 ghost use Rattle.font_set.specs.Views.{key_of};
 
-use crate::{FontFault, Fonts, Want};
-use dv_base::{Conv, MemShelf, Units, font_name};
+use crate::{FontFault, Fonts, Kind, Want};
+use dv_base::{Conv, FileName, MemShelf, Units, font_name};
 use dvi_doc::FontKey;
 use std::alloc::{AllocError, Global};
 use std::test::Fail;
@@ -55,9 +55,11 @@ fn vf(alloc: Global, checksum: u8, local: &[u8; 4]) -> Result<Vec<u8>, AllocErro
 }
 
 fn fonts(alloc: Global, dpi: i64, want: Want) -> Option<Fonts>
-    requires { dpi ≤ℤ pos 10000 }
     ensures { IfSome result (λ fonts. fonts.fonts ≡ []) }
 {
+    if dpi > 10_000 {
+        return None;
+    }
     let units = Units {
         num: 25_400_000,
         den: 473_628_672,
@@ -80,19 +82,54 @@ fn key(name: &str, checksum: u32, size: u32) -> Option<FontKey>
     })
 }
 
+/// What loading a font answers: the font's kind or its fault, the file that the fault names, and whether checksums differ.
+#[derive(Drop)]
+struct Answer {
+    word: &'static str,
+    name: Option<FileName>,
+    differs: bool,
+}
+
+impl Answer {
+    /// Whether the fault names this file; none has no name.
+    fn has_name(&self, name: &str) -> bool {
+        match &self.name {
+            Some(found) => found.as_str() == name,
+            None => name.is_empty(),
+        }
+    }
+}
+
 /// What a fault says, and the name that it has.
-fn told(fault: &FontFault) -> (&str, &str) {
-    match fault {
-        FontFault::Missing(name) => ("Missing", name.as_str()),
-        FontFault::FileTooLong(name) => ("FileTooLong", name.as_str()),
-        FontFault::ReadFault(name) => ("ReadFault", name.as_str()),
-        FontFault::Tfm(name, _) => ("Tfm", name.as_str()),
-        FontFault::Pk(name, _) => ("Pk", name.as_str()),
-        FontFault::Vf(name, _) => ("Vf", name.as_str()),
-        FontFault::TooManyFonts => ("TooManyFonts", ""),
-        FontFault::BadSize(_) => ("BadSize", ""),
-        FontFault::RasterSpace => ("RasterSpace", ""),
-        FontFault::OutOfMemory => ("OutOfMemory", ""),
+fn told(fault: FontFault) -> Answer {
+    let (word, name) = match fault {
+        FontFault::Missing(name) => ("Missing", Some(name)),
+        FontFault::FileTooLong(name) => ("FileTooLong", Some(name)),
+        FontFault::ReadFault(name) => ("ReadFault", Some(name)),
+        FontFault::Tfm(name, _) => ("Tfm", Some(name)),
+        FontFault::Pk(name, _) => ("Pk", Some(name)),
+        FontFault::Vf(name, _) => ("Vf", Some(name)),
+        FontFault::TooManyFonts => ("TooManyFonts", None),
+        FontFault::BadSize(_) => ("BadSize", None),
+        FontFault::RasterSpace => ("RasterSpace", None),
+        FontFault::OutOfMemory => ("OutOfMemory", None),
+    };
+    Answer {
+        word,
+        name,
+        differs: false,
+    }
+}
+
+/// The kind of a font in which code 65 is half as wide as the size.
+fn word(kind: Kind, width: Option<i64>) -> &'static str {
+    if width != Some(327_680) {
+        return "another width";
+    }
+    match kind {
+        Kind::Known => "Known",
+        Kind::Real => "Real",
+        Kind::Virtual => "Virtual",
     }
 }
 
@@ -114,79 +151,83 @@ fn put(
     shelf.add(name, &bytes)
 }
 
-/// Loads the font `base` at 10 points: its kind, the width of code 65, whether its checksums differ; or its fault.
+/// Loads the font `base` at 10 points.
 fn load(
     alloc: Global,
     shelf: &mut MemShelf,
     dpi: i64,
     want: Want,
     checksum: u32,
-) -> Result<String, Fail>
-    requires { dpi ≤ℤ pos 10000 }
-{
-    let mut fonts = fonts(alloc, dpi, want).ok_or("units")?;
-    let key = key("base", checksum, 655_360).ok_or("a key")?;
-    let id = match fonts.know(&key) {
-        Ok(id) => id,
-        Err(_) => return Ok(format!(in alloc; "not known")?),
+) -> Option<Answer> {
+    let mut fonts = fonts(alloc, dpi, want)?;
+    let key = key("base", checksum, 655_360)?;
+    let Ok(id) = fonts.know(&key) else {
+        return None;
     };
     match fonts.load(shelf, id) {
-        Ok(()) => Ok(format!(in alloc;
-            "{:?} {:?} {}",
-            fonts.kind(id),
-            fonts.width(id, 65),
-            fonts.mismatch(id)
-        )?),
-        Err(fault) => {
-            let (kind, name) = told(&fault);
-            Ok(format!(in alloc; "{kind} {name}")?)
-        }
+        Ok(()) => Some(Answer {
+            word: word(fonts.kind(id), fonts.width(id, 65)),
+            name: None,
+            differs: fonts.mismatch(id),
+        }),
+        Err(fault) => Some(told(fault)),
     }
 }
 
-/// In each line the resolution, what is wanted, the files, the call of the shelf that fails (0: none does), and the answer.
-const LOADS: &str = "300 rasters base.tfm,base.301pk 0 Real Some(327680) false
-300 rasters base.tfm,base.301pk 1 ReadFault base.vf
-300 rasters base.tfm,base.301pk 2 ReadFault base.tfm
-300 rasters base.tfm,base.301pk 3 ReadFault base.300pk
-300 rasters base.tfm,base.301pk 4 ReadFault base.299pk
-300 rasters base.tfm,base.301pk 5 ReadFault base.301pk
-300 rasters base.tfm 0 Missing base.301pk
-300 rasters base.vf,base.tfm 3 Virtual Some(327680) false
-300 packets base.tfm 3 Real Some(327680) false
-300 packets base.vf 0 Missing base.tfm
-300 widths base.vf,base.tfm 2 Real Some(327680) false
-300 widths base.vf 0 Missing base.tfm
-1 rasters base.tfm 3 ReadFault base.1pk
-1 rasters base.tfm 4 ReadFault base.2pk
-1 rasters base.tfm 5 Missing base.2pk";
+/// The files of a shelf, the call that fails (0: none does), the resolution and what is wanted, and the answer.
+type Load = (
+    [&'static str; 2],
+    u32,
+    i64,
+    Want,
+    &'static str,
+    &'static str,
+);
+
+const ABOVE: [&str; 2] = ["base.tfm", "base.301pk"];
+
+const BOTH: [&str; 2] = ["base.vf", "base.tfm"];
+
+const WIDTHS_ALONE: [&str; 2] = ["base.tfm", "base.tfm"];
+
+const PACKETS_ALONE: [&str; 2] = ["base.vf", "base.vf"];
+
+const LOADS: [Load; 15] = [
+    (ABOVE, 0, 300, Want::Rasters, "Real", ""),
+    (ABOVE, 1, 300, Want::Rasters, "ReadFault", "base.vf"),
+    (ABOVE, 2, 300, Want::Rasters, "ReadFault", "base.tfm"),
+    (ABOVE, 3, 300, Want::Rasters, "ReadFault", "base.300pk"),
+    (ABOVE, 4, 300, Want::Rasters, "ReadFault", "base.299pk"),
+    (ABOVE, 5, 300, Want::Rasters, "ReadFault", "base.301pk"),
+    (WIDTHS_ALONE, 0, 300, Want::Rasters, "Missing", "base.301pk"),
+    (BOTH, 3, 300, Want::Rasters, "Virtual", ""),
+    (WIDTHS_ALONE, 3, 300, Want::Packets, "Real", ""),
+    (PACKETS_ALONE, 0, 300, Want::Packets, "Missing", "base.tfm"),
+    (BOTH, 2, 300, Want::Widths, "Real", ""),
+    (PACKETS_ALONE, 0, 300, Want::Widths, "Missing", "base.tfm"),
+    (WIDTHS_ALONE, 3, 1, Want::Rasters, "ReadFault", "base.1pk"),
+    (WIDTHS_ALONE, 4, 1, Want::Rasters, "ReadFault", "base.2pk"),
+    (WIDTHS_ALONE, 5, 1, Want::Rasters, "Missing", "base.2pk"),
+];
+
+/// A shelf with two files, one call of which fails.
+fn shelf_of(alloc: Global, files: [&'static str; 2], call: u32) -> Result<MemShelf, AllocError> {
+    let mut shelf = MemShelf::new(alloc);
+    put(alloc, &mut shelf, files[0], 0, b"next")?;
+    put(alloc, &mut shelf, files[1], 0, b"next")?;
+    shelf.fail_at(call)?;
+    Ok(shelf)
+}
 
 #[test]
 fn loads(rt: HostRuntime) -> Result<(), Fail> {
-    for line in LOADS.lines() {
-        let mut fields = line.splitn(5, ' ');
-        let dpi = if fields.next().ok_or("a resolution")? == "1" {
-            1
-        } else {
-            300
+    for (files, call, dpi, want, word, name) in LOADS {
+        let mut shelf = shelf_of(rt.alloc(), files, call)?;
+        let Some(answer) = load(rt.alloc(), &mut shelf, dpi, want, 0) else {
+            return Err("no answer".into());
         };
-        let want = match fields.next().ok_or("what is wanted")? {
-            "widths" => Want::Widths,
-            "packets" => Want::Packets,
-            _ => Want::Rasters,
-        };
-        let mut shelf = MemShelf::new(rt.alloc());
-        for name in fields.next().ok_or("files")?.split(',') {
-            put(rt.alloc(), &mut shelf, name, 0, b"next")?;
-        }
-        let call: u32 = fields.next().ok_or("a call")?.parse()?;
-        shelf.fail_at(call)?;
-        let answer = load(rt.alloc(), &mut shelf, dpi, want, 0)?;
-        assert_eq!(rt;
-            answer.as_str(),
-            fields.next().ok_or("an answer")?,
-            "{line}"
-        );
+        assert_eq!(rt; answer.word, word, "{name} {call}");
+        assert!(rt; answer.has_name(name), "{name} {call}");
     }
     Ok(())
 }
@@ -201,22 +242,77 @@ const CHECKSUMS: [(u32, u8, u8, bool); 6] = [
     (0, 7, 8, true),
 ];
 
+/// Whether checksums differ, where this file is there beside the TFM file.
+fn differ(alloc: Global, sums: (u32, u8, u8), name: &str) -> Result<Option<bool>, AllocError> {
+    let (key, tfm, other) = sums;
+    let mut shelf = MemShelf::new(alloc);
+    put(alloc, &mut shelf, "base.tfm", tfm, b"next")?;
+    put(alloc, &mut shelf, name, other, b"next")?;
+    match load(alloc, &mut shelf, 300, Want::Rasters, key) {
+        Some(answer) => Ok(Some(answer.differs)),
+        None => Ok(None),
+    }
+}
+
 #[test]
 fn mismatches(rt: HostRuntime) -> Result<(), Fail> {
-    for (key, tfm, other, differ) in CHECKSUMS {
-        for name in ["base.300pk", "base.vf"] {
-            let mut shelf = MemShelf::new(rt.alloc());
-            put(rt.alloc(), &mut shelf, "base.tfm", tfm, b"next")?;
-            put(rt.alloc(), &mut shelf, name, other, b"next")?;
-            let answer = load(rt.alloc(), &mut shelf, 300, Want::Rasters, key)?;
-            let end = if differ { "true" } else { "false" };
-            assert!(rt;
-                answer.as_str().ends_with(end),
-                "{key} {tfm} {other} {name}"
-            );
-        }
+    for (key, tfm, other, expected) in CHECKSUMS {
+        let sums = (key, tfm, other);
+        assert!(rt;
+            differ(rt.alloc(), sums, "base.300pk")? == Some(expected),
+            "{key} {tfm} {other}"
+        );
+        assert!(rt;
+            differ(rt.alloc(), sums, "base.vf")? == Some(expected),
+            "{key} {tfm} {other}"
+        );
     }
     Ok(())
+}
+
+/// Loads a font, and gives the key of its local font.
+fn local_of(fonts: &mut Fonts, shelf: &mut MemShelf, key: &FontKey) -> Option<FontKey>
+    requires key { IsKey (key_of key.now) }
+    ensures { IfSome result (λ key. IsKey (key_of key)) }
+{
+    let Ok(id) = fonts.know(key) else {
+        return None;
+    };
+    if fonts.load(shelf, id).is_err() {
+        return None;
+    }
+    match fonts.key_of_local(id, 0) {
+        Ok(local) => local,
+        Err(_) => None,
+    }
+}
+
+/// Each local font has 943718 / 2^20 of the size of its font, and the bitmaps are asked for at its own resolution first.
+#[test]
+fn sizes_of_local_fonts(rt: HostRuntime) -> Result<(), Fail> {
+    let mut shelf = MemShelf::new(rt.alloc());
+    put(rt.alloc(), &mut shelf, "top.vf", 0, b"next")?;
+    put(rt.alloc(), &mut shelf, "top.tfm", 0, b"next")?;
+    put(rt.alloc(), &mut shelf, "next.vf", 0, b"base")?;
+    put(rt.alloc(), &mut shelf, "next.tfm", 0, b"base")?;
+    put(rt.alloc(), &mut shelf, "base.tfm", 0, b"base")?;
+    shelf.fail_at(7)?;
+    let mut fonts = fonts(rt.alloc(), 300, Want::Rasters).ok_or("units")?;
+    let top = key("top", 0, 655_360).ok_or("a key")?;
+    let next = local_of(&mut fonts, &mut shelf, &top).ok_or("the next font")?;
+    let base = local_of(&mut fonts, &mut shelf, &next).ok_or("the base font")?;
+    assert_eq!(rt; next.size, 589_823);
+    assert_eq!(rt; base.size, 530_840);
+    let Ok(id) = fonts.know(&base) else {
+        return Err("not known".into());
+    };
+    match fonts.load(&mut shelf, id) {
+        Ok(()) => Err("no fault".into()),
+        Err(fault) => {
+            assert!(rt; told(fault).has_name("base.243pk"));
+            Ok(())
+        }
+    }
 }
 
 #[test]

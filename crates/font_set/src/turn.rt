@@ -7,7 +7,7 @@ ghost use Rattle.dvi_ops.specs.View.{view};
 ghost use Rattle.font_set.specs.Locals.{KeyAnswer};
 ghost use Rattle.font_set.specs.Search.{IsHome, IsTurnFault, program_of, bytes_of, first_of, spot_at, fonts_of};
 ghost use Rattle.font_set.specs.Found.{Reads, IsPlaced};
-ghost use Rattle.font_set.specs.Asking.{IsAsked, DoesAsked, AskedFault, IsBadSize};
+ghost use Rattle.font_set.specs.Asking.{IsAsked, DoesAsked, AskedFault, KeyFault};
 
 use crate::agenda::{Home, Place};
 use crate::fault::{FontFault, LoadFault};
@@ -154,7 +154,7 @@ impl Fonts {
     ) -> Result<Option<FontKey>, LoadFault>
         requires given { IsHome self.now home.now }
         ensures key { IfOk result (KeyAnswer (fonts_of self.now sheet.now.page home.now) k) }
-        ensures fault { IfErr result IsBadSize }
+        ensures fault { IfErr result (KeyFault self.now home.now k) }
     {
         match *home {
             Home::Page => Ok(sheet.font(k)),
@@ -170,7 +170,7 @@ impl Fonts {
         requires given { IsHome self.now place.now.home }
         requires short { first_of sheet.now.first place.now.home + place.now.at < 2 ^ 32 }
         ensures does { IfOk result (DoesAsked (fonts_of self.now sheet.now.page place.now.home) asked.now) }
-        ensures fault { IfErr result (AskedFault place.now.home (fonts_of self.now sheet.now.page place.now.home) (first_of sheet.now.first place.now.home + place.now.at) asked.now) }
+        ensures fault { IfErr result (AskedFault self.now place.now.home (fonts_of self.now sheet.now.page place.now.home) (first_of sheet.now.first place.now.home + place.now.at) asked.now) }
     {
         match *asked {
             Asked::Nothing => Ok(Does::Nothing),
@@ -187,7 +187,7 @@ impl Fonts {
         requires inside { place.now.at < place.now.end }
         requires placed { IsPlaced sheet.now self.now place.now }
         ensures read { IfOk result (Reads sheet.now self.now place.now) }
-        ensures fault { IfErr result (IsTurnFault place.now.home (program_of self.now sheet.now.page place.now.home).scope (first_of sheet.now.first place.now.home) place.now.at (bytes_of self.now sheet.now.bytes place.now.home)) }
+        ensures fault { IfErr result (IsTurnFault self.now place.now.home (program_of self.now sheet.now.page place.now.home).scope (first_of sheet.now.first place.now.home) place.now.at (bytes_of self.now sheet.now.bytes place.now.home)) }
     {
         one_spelling();
         let (asked, next) = self.asked_at(sheet, place);

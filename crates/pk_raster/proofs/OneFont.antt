@@ -111,8 +111,8 @@ bits_apart b n e = cc
 same_bits : (a b : Bitmap) → Bits a ≡ Bits b → a ≡ b
 same_bits a b e = ap (λ (k : Known). elim k [ Nothing ↦ a | Large n ↦ a | Bits c ↦ c ]) e
 
-rows_of : (p : Packet) (b : Bitmap) → IsBitmap p b → AreRows b
-rows_of p b x =
+rows_of : (p : Packet) (b : Bitmap) → bitmap_bytes (width p.flag p.content) (height p.flag p.content) ≤ 65535 → IsBitmap p b → AreRows b
+rows_of p b small x =
     let drawn = drawn_rows p.flag (width p.flag p.content) (height p.flag p.content) (raster p.flag p.content) x.rows x.drawn in
     let count = drawn_bytes p.flag (width p.flag p.content) (height p.flag p.content) (raster p.flag p.content) b.rows x.rows x.drawn x.pads in
     record {
@@ -122,13 +122,16 @@ rows_of p b x =
       padded = subst (λ w. Pads w x.rows b.rows) (sym x.w) x.pads;
       count = rw (x.w, x.h) count;
       bytes = x.bytes;
+      short = omega (arith, count, small);
+      right = x.right;
+      down = x.down;
     }
 
 glyph_rows : (p : Packet) (k : Known) (b : Bitmap) → IsGlyph p k → k ≡ Bits b → AreRows b
 glyph_rows p k b g e =
     ⊎_elim
     (λ large. absurd (bits_apart b _ (sym e ∙ g.large large)))
-    (λ small. (let x = g.kept small in subst AreRows (same_bits x.0 b (sym x.1 ∙ e)) (rows_of p x.0 x.2)))
+    (λ small. (let x = g.kept small in subst AreRows (same_bits x.0 b (sym x.1 ∙ e)) (rows_of p x.0 small x.2)))
     (cases_lt 65535 (bitmap_bytes (width p.flag p.content) (height p.flag p.content)))
 
 bits_some : (b : Bitmap) → Bits b ≡ Nothing → ⊥

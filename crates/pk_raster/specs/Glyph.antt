@@ -1,5 +1,5 @@
 -- What a character's packet draws.
-use Rattle.std.specs.Prelude.{◌≡◌, ◌≢◌, ℕ, ℤ, List, [], ◌+◌, ◌*◌, ◌/◌, ◌%◌, ◌<◌, ◌≤◌, length, drop, slice_index, replicate}
+use Rattle.std.specs.Prelude.{◌≡◌, ◌≢◌, ℕ, ℤ, List, [], ◌+◌, ◌*◌, ◌/◌, ◌%◌, ◌^◌, ◌<◌, ◌≤◌, length, drop, slice_index, replicate, unsigned_abs}
 use Rattle.std.specs.List.{flat_map}
 use Rattle.pk_raster.specs.Bits.{bits, padded}
 use Rattle.pk_raster.specs.Numbers.{nybbles}
@@ -60,7 +60,7 @@ pub record Draws (flag w h : ℕ) (given : List ℕ) (rows : List (List ℕ)) : 
 abbrev pub Pads : ℕ → List (List ℕ) → List ℕ → Type 0
 Pads w rows bytes = bits bytes ≡ flat_map (padded (8 * stride w)) rows
 
--- The packet's sizes and rows as a bitmap.
+-- The packet's sizes and rows as a bitmap. A row is bytes, and an offset is a signed number of at most four bytes.
 pub record IsBitmap (p : Packet) (bitmap : Bitmap) : Type 0 where
   pub w : bitmap.w ≡ width p.flag p.content
   pub h : bitmap.h ≡ height p.flag p.content
@@ -70,6 +70,8 @@ pub record IsBitmap (p : Packet) (bitmap : Bitmap) : Type 0 where
   pub drawn : Draws p.flag (width p.flag p.content) (height p.flag p.content) (raster p.flag p.content) rows
   pub pads : Pads (width p.flag p.content) rows bitmap.rows
   pub bytes : (i : ℕ) → slice_index bitmap.rows i < 256
+  pub right : unsigned_abs bitmap.hoff ≤ 2 ^ 31
+  pub down : unsigned_abs bitmap.voff ≤ 2 ^ 31
 
 -- What a font tells of a packet's code: the size alone where the bitmap has more than 65,535 bytes, and then its raster
 -- may be anything; else the bitmap.

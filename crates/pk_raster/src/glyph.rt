@@ -1,5 +1,5 @@
 //! The bitmap that a character's packet draws.
-ghost use Rattle.std.specs.Prelude.{◌≡◌, ◌≢◌, ◌≤◌, ◌<◌, ◌+◌, ◌*◌, ◌^◌, ℕ, List, length, IfOk, IfErr, ◌/◌};
+ghost use Rattle.std.specs.Prelude.{◌≡◌, ◌≢◌, ◌≤◌, ◌<◌, ◌+◌, ◌*◌, ◌^◌, ℕ, List, length, unsigned_abs, IfOk, IfErr, ◌/◌};
 ghost use Rattle.pk_raster.specs.Bits.{bits};
 ghost use Rattle.pk_raster.specs.Numbers.{nybbles};
 ghost use Rattle.pk_raster.specs.Raster.{IsPlain, IsRaster, FaultIs, PlainFaultIs};
@@ -48,6 +48,8 @@ pub fn read_sizes(flag: u8, content: &[u8]) -> Sizes
     ensures h { result.h ≡ height flag content.now }
     ensures hoff { result.hoff ≡ right_offset flag content.now }
     ensures voff { result.voff ≡ down_offset flag content.now }
+    ensures right { unsigned_abs result.hoff ≤ 2 ^ 31 }
+    ensures down { unsigned_abs result.voff ≤ 2 ^ 31 }
 {
     let first = by_form(flag, 4, 5, 12);
     let n = size_bytes(flag);

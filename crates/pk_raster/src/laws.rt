@@ -6,7 +6,8 @@ pub fn one_font()
     ensures { OneFont }
 {}
 
-/// The rows of each bitmap have as many bytes as its sizes say, and bits 0 behind their pixels.
+/// The rows of each bitmap have as many bytes as its sizes say, bits 0 behind their pixels, and no more than
+/// 65,535; its offsets fit 32 bits.
 pub fn whole_rows()
     ensures { WholeRows }
 {}

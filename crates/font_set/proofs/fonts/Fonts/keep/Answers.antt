@@ -1,8 +1,8 @@
 use Rattle.std.proofs.Common.{◌≡◌, ◌<◌, ◌≤◌, ◌+◌, ◌^◌, ℕ, List, length, slice_get, arith, sym, ap, subst, ◌∙◌}
 use Rattle.font_set.specs.Files.{with_state}
 use Rattle.font_set.specs.Fonts.{State, Entry, FontSet, state_at, state_in, raster_bytes, raster_bytes_in}
-use Rattle.font_set.specs.Stored.{AreStored, entries_of, state_of}
-use Rattle.font_set.proofs.Loading.{entries_set, stored_set, set_bytes}
+use Rattle.font_set.specs.Stored.{AreStored, HasWanted, HaveWanted, entries_of, state_of}
+use Rattle.font_set.proofs.Loading.{entries_set, stored_set, set_bytes, wanted_set}
 use Rattle.font_set.proofs.fonts.Fonts.keep.Goals as goal
 
 pub invariant_of-self : goal.invariant_of-self
@@ -24,6 +24,7 @@ invariant_of-self c =
       inv.1,
       subst AreStored same (stored_set es n s less known c.requires.sound room inv.2),
       ap (λ (b : ℕ). b + c.raster_bytes.result) inv.3 ∙ ap (λ (b : ℕ). raster_bytes es + b) c.raster_bytes.ensures ∙ sym (set_bytes es n s less known) ∙ ap raster_bytes same,
+      subst (HaveWanted c.self.inside.want) same (wanted_set c.self.inside.want es n s (subst (λ (t : FontSet). HasWanted t.want s) back c.requires.wanted) inv.4),
     )
 
 pub returns : goal.returns

@@ -3,11 +3,11 @@ use Rattle.std.specs.Option.{is_some}
 use Rattle.std.proofs.lemmas.List.{length-map}
 use Rattle.font_set.specs.Fonts.{Entry, FontSet, place_of, learn, raster_bytes}
 use Rattle.font_set.specs.Growth.{Learnt}
-use Rattle.font_set.specs.Stored.{entry_of, entries_of, AreStored}
+use Rattle.font_set.specs.Stored.{entry_of, entries_of, AreStored, HaveWanted}
 use Rattle.font_set.specs.Views.{key_of}
 use Rattle.font_set.proofs.Ids.{id_below}
 use Rattle.font_set.proofs.Keys.{place_is, learn_old, put_last}
-use Rattle.font_set.proofs.Learning.{learnt_old, learnt_new, bytes_push, stored_learn, not_full}
+use Rattle.font_set.proofs.Learning.{learnt_old, learnt_new, bytes_push, stored_learn, wanted_learn, not_full}
 use Rattle.font_set.proofs.fonts.Fonts.know.Goals as goal
 
 pub returns-in-Some-clause-id : goal.returns-in-Some-clause-id
@@ -49,6 +49,7 @@ invariant_of-self c =
       inv.1,
       subst AreStored (sym last.0) (stored_learn (entries_of old.entries) (key_of c.args.key.now) absent c.requires.key less inv.2),
       inv.3 ∙ sym (bytes_push (entries_of old.entries) (key_of c.args.key.now) absent) ∙ ap raster_bytes (sym last.0),
+      subst (HaveWanted c.self.inside.want) (sym last.0) (wanted_learn c.self.inside.want (entries_of old.entries) (key_of c.args.key.now) absent inv.4),
     )
 
 pub returns-in-Ok-clause-id : goal.returns-in-Ok-clause-id

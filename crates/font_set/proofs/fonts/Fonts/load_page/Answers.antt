@@ -11,3 +11,6 @@ returns-clause-loads g c = rw c.page_bytes-first.ensures.page c.search.ensures.l
 
 pub returns-clause-fault : goal.returns-clause-fault
 returns-clause-fault g c = rw c.page_bytes-first.ensures.page c.search.ensures.fault
+
+pub returns-clause-gains : goal.returns-clause-gains
+returns-clause-gains g c = rw c.page_bytes-first.ensures.page c.search.ensures.gains

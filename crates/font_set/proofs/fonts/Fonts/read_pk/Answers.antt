@@ -16,6 +16,7 @@ returns g c =
     let none = subst (λ (bytes : List ℕ). NoFont bytes (1073741824 - c.self.inside.kept_bytes)) c.deref.ensures.value (c.in-Err.ensures.none ours) in
     record {
       pk = tt;
+      drawn = tt;
       room = tt;
       fault =
           record {

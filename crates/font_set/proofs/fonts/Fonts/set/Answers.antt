@@ -1,11 +1,13 @@
-use Rattle.std.proofs.Common.{ℕ, ℤ, Some, None, sym, ap, subst, ◌∙◌, ◌<◌, length, pos, arith, OnOk, IfErr, FitsSigned, w64, rules}
+use Rattle.std.proofs.Common.{◌≡◌, ℕ, ℤ, Some, None, sym, ap, subst, ◌∙◌, ◌<◌, length, pos, arith, OnOk, IfErr, FitsSigned, w64, rules}
 use Rattle.std.proofs.lemmas.Int.{to_z-of_z}
 use Rattle.dv_base.specs.declared.font_id.Spot.{Spot}
 use Rattle.font_set.specs.LoadFaults.{InFrame, SetsNowhere}
 use Rattle.font_set.specs.Found.{WasMet, Meets}
-use Rattle.font_set.specs.Search.{MeetFault}
+use Rattle.font_set.specs.Gains.{Gains}
+use Rattle.font_set.specs.Search.{MeetFault, BeginsIn}
 use Rattle.font_set.specs.declared.fault.LoadFault.{LoadFault}
-use Rattle.font_set.proofs.Steps.{placed, font_below, skip_step, meet_step, nowhere_fault, meet_fault, on_ok, both_err}
+use Rattle.font_set.proofs.Telling.{met_gains}
+use Rattle.font_set.proofs.Steps.{placed, font_below, skip_step, meet_step, nowhere_fault, set_here, meet_fault, on_ok, if_err}
 use Rattle.font_set.proofs.fonts.Fonts.set.Goals as goal
 
 pub returns-in_default-clause-fault : goal.returns-in_default-clause-fault
@@ -50,10 +52,28 @@ returns-clause-steps g c =
     meet_step c.args.sheet.now c.args.place.now c.moved.result c.args.turn.now c.args.z c.numbered-id.result c.args.self.now c.meet.new.self c.args.agenda.now c.push.new.self c.meet.new.agenda
     c.requires.read c.requires.does (c.in-Some.is ∙ ap (λ (n : ℕ). Some n) (sym c.numbered-id.ensures)) unmet place.given m c.moved.ensures c.in_ok-push.ensures.places c.in_ok-push.ensures.met) meets
 
+pub returns-clause-gains : goal.returns-clause-gains
+returns-clause-gains g c =
+    let fits : FitsSigned w64 c.args.z = search rules in
+    let held = (g.S.Shelf.told c.args.shelf.now).held in
+    let now = c.args.self.now in
+    let new = c.meet.new.self in
+    let id = c.numbered-id.result in
+    let here = set_here c.args.sheet.now c.requires.found.0 now c.args.agenda.now.met c.args.place.now c.args.agenda.now.places c.args.turn.now id c.args.z
+    c.requires.read c.requires.does (c.in-Some.is ∙ ap (λ (n : ℕ). Some n) (sym c.numbered-id.ensures)) c.requires.found.1 in
+    met_gains held now new c.args.sheet.now.page id c.args.z here
+    (subst (λ (z : ℤ). Gains held now new (λ i. i ≡ id) (BeginsIn new id z)) (to_z-of_z w64 c.args.z fits) c.meet.ensures.gains)
+
 pub returns-clause-fault : goal.returns-clause-fault
 returns-clause-fault g c =
     let fits : FitsSigned w64 c.args.z = search rules in
-    let fault = subst (λ (z : ℤ). IfErr c.meet.result (MeetFault c.meet.new.self c.numbered-id.result z)) (to_z-of_z w64 c.args.z fits) c.meet.ensures.fault in
-    both_err c.meet.result (λ e x h.
-    meet_fault c.args.sheet.now c.requires.found.0 c.args.self.now c.meet.new.self c.args.agenda.now.met c.args.place.now c.args.agenda.now.places c.args.turn.now c.numbered-id.result c.args.z e
-    c.requires.read c.requires.does (c.in-Some.is ∙ ap (λ (n : ℕ). Some n) (sym c.numbered-id.ensures)) x h c.requires.found.1) c.meet.ensures.extends fault
+    let before = g.S.Shelf.told c.args.shelf.now in
+    let behind = g.S.Shelf.told c.meet.new.shelf in
+    let now = c.args.self.now in
+    let new = c.meet.new.self in
+    let id = c.numbered-id.result in
+    let here = set_here c.args.sheet.now c.requires.found.0 now c.args.agenda.now.met c.args.place.now c.args.agenda.now.places c.args.turn.now id c.args.z
+    c.requires.read c.requires.does (c.in-Some.is ∙ ap (λ (n : ℕ). Some n) (sym c.numbered-id.ensures)) c.requires.found.1 in
+    let gains = c.meet.ensures.gains in
+    let fault = subst (λ (z : ℤ). IfErr c.meet.result (MeetFault new id z before behind)) (to_z-of_z w64 c.args.z fits) c.meet.ensures.fault in
+    if_err c.meet.result (λ e h. meet_fault c.args.sheet.now.page now new id c.args.z before behind e gains.extends here h) fault
