@@ -1,0 +1,6 @@
+pub mod Belows
+pub mod Costs
+pub mod Plans
+pub mod Marking
+pub mod Planning
+pub mod Within

@@ -1,0 +1,11 @@
+pub mod Below
+pub mod Used
+pub mod UsedLaws
+pub mod Cost
+pub mod Places
+pub mod Kept
+pub mod Sections
+pub mod Planned
+pub mod Growing
+pub mod PlanFaults
+pub mod Laws
