@@ -3,8 +3,7 @@ use Rattle.std.proofs.Common.{◌≡◌, ◌≤◌, ℕ, List, [], ◌∷◌, �
 use Rattle.std.specs.Prelude.{codes, if◌then◌else◌}
 use Rattle.std.specs.List.{list_all}
 use Rattle.std.specs.Str.Parse.{digits_value}
-use Rattle.dv_top.specs.Job.{input_name}
-use Rattle.dv_top.specs.Printing.{IsGoodJob}
+use Rattle.dv_top.specs.Job.{IsGoodJob, input_name}
 use Rattle.dv_top.specs.Words.{is_file_name, is_input_name, is_number, is_option, is_resolution, is_visible}
 use Rattle.dv_top.proofs.Listed.{SaysJob, both, first, second, resolution_small}
 

@@ -1,79 +1,85 @@
-//! The pages of a document are looked at before anything is written.
-ghost use Rattle.std.specs.Prelude.{◌≡◌, ◌<◌, ◌≤◌, ◌+◌, ◌^◌, List, IfErr, OnOk, MatchOption, length};
-ghost use Rattle.dv_top.specs.Each.{Each};
-ghost use Rattle.dvi_doc.specs.Document.{Document, PageOf};
+//! The pages of a document are walked over before anything is written: their faults are found, and which characters they use.
+ghost use Rattle.std.specs.Prelude.{◌≡◌, ◌<◌, ◌≤◌, ◌+◌, ◌^◌, [], IfErr, OnOk, OnErr, IfOk, length};
+ghost use Rattle.dvi_doc.specs.Document.{Document};
 ghost use Rattle.dvi_doc.specs.Grammar.{IsDoc};
 ghost use Rattle.dvi_doc.specs.View.{IsRead};
-ghost use Rattle.dv_top.specs.Pages.{IsBarePage, IsBodyOf, IsFirstUnbuiltIn, IsReady};
-ghost use Rattle.dv_top.specs.Runs.{InSomePage, IsPageCause, IsPageSpot, SamePlace};
+ghost use Rattle.dv_base.specs.UnitPixels.{pixels_of_one};
+ghost use Rattle.sections.specs.Used.{HasTaken, Takes};
+ghost use Rattle.dv_top.specs.Checking.{CheckFails, IsWalkReason};
+ghost use Rattle.dv_top.specs.Covered.{CoversPages};
+ghost use Rattle.dv_top.specs.Each.{Each};
+ghost use Rattle.vf_expand.specs.Page.{pages_count};
+ghost use Rattle.dv_top.specs.Printing.{grid_with, most_steps};
+ghost use Rattle.dv_top.specs.Writing.{HasRasters, IsReady, marks_in};
 
-use crate::blank::Blank;
-use crate::body::{PageBody, page_body};
+use crate::label::label;
 use crate::outcome::Outcome;
-use dv_base::{Site, Spot};
+use crate::tell::of_walk;
+use dv_base::Conv;
 use dvi_doc::{Doc, one_document};
-use vf_expand::{WalkFault, Walker, first_unbuilt};
+use font_set::Fonts;
+use sections::Usage;
+use std::alloc::Global;
+use vf_expand::{Walker, pages_by_place};
 
-/// The place of the first command, in file order, that sets a character or selects a font.
-pub fn find_unbuilt(doc: &Doc<'_>) -> Option<u32>
+/// How many pixels a place may drift from the exact one.
+const DRIFT: i64 = 2;
+
+/// Walks over the pages, one after another, and lets `usage` take their marks, or answers why one of them can't be walked over.
+fn check_pages(
+    doc: &Doc<'_>,
+    fonts: &Fonts,
+    walker: &mut Walker,
+    usage: &mut Usage,
+) -> Result<(), Outcome>
     requires read { IsRead doc.now }
     requires short { length doc.now.bytes < 2 ^ 31 }
-    ensures { (d : Document) → IsDoc doc.now.bytes d → MatchOption result (Each IsBarePage d.pages) (IsFirstUnbuiltIn d.pages) }
+    requires covers { (d : Document) → IsDoc doc.now.bytes d → CoversPages fonts.now doc.now.fonts d.pages }
+    requires rasters { HasRasters fonts.now }
+    requires across { walker.old.grid.across ≡ pixels_of_one fonts.now.units }
+    requires begins { walker.old.steps ≡ 0 }
+    requires given { usage.old.fonts ≡ length fonts.now.fonts }
+    ensures ready { (d : Document) → IsDoc doc.now.bytes d → OnOk result (Each (IsReady walker.old.grid fonts.now doc.now.fonts) d.pages) }
+    ensures few { (d : Document) → IsDoc doc.now.bytes d → OnOk result (pages_count fonts.now doc.now.fonts d.pages ≤ most_steps) }
+    ensures takes { (d : Document) → IsDoc doc.now.bytes d → OnOk result (Takes usage.old usage.new (marks_in walker.old.grid fonts.now doc.now.fonts d.pages)) }
+    ensures reason { (d : Document) → IsDoc doc.now.bytes d → IfErr result (IsWalkReason walker.old.grid fonts.now doc.now.fonts d.pages) }
+    ensures kept { walker.new.grid ≡ walker.old.grid }
 {
     one_document();
+    pages_by_place();
     for page in 0..doc.pages().len() {
-        let body = page_body(doc, page);
-        if let Some(at) = first_unbuilt(body.bytes, body.first) {
-            return Some(at);
+        // (a label is a number of 32 bits)
+        let _ = label(&doc.pages()[page]);
+        if let Err(fault) = walker.page(doc, page, fonts, usage) {
+            return Err(of_walk(fonts, fault));
         }
     }
-    None
-}
-
-/// The spot of a walk over a page.
-fn site(spot: Spot) -> Site
-    requires { IsPageSpot spot }
-    ensures { SamePlace spot result }
-{
-    match spot {
-        Spot::Page { at } => Site::Page { at },
-        Spot::Packet { .. } => unreachable!(),
-    }
-}
-
-/// Walks over a page without printing it, and answers the fault that stands in it.
-fn check_page(walker: &mut Walker, body: &PageBody<'_>) -> Result<(), Outcome>
-    requires short { body.now.first + length body.now.bytes.now < 2 ^ 31 }
-    requires page { (p : PageOf) × IsBodyOf body.now.first body.now.bytes.now body.now.label p × IsBarePage p }
-    ensures ready { (p : PageOf) → IsBodyOf body.now.first body.now.bytes.now body.now.label p → IsBarePage p → OnOk result (IsReady walker.old p) }
-    ensures cause { (p : PageOf) → IsBodyOf body.now.first body.now.bytes.now body.now.label p → IsBarePage p → IfErr result (IsPageCause walker.old p) }
-    ensures kept { walker.new ≡ walker.old }
-{
-    let mut blank = Blank;
-    match walker.rules(body.bytes, body.first, &mut blank) {
-        Ok(()) => Ok(()),
-        Err(WalkFault::StackUnder(spot)) => Err(Outcome::StackUnder { spot: site(spot) }),
-        Err(WalkFault::StackLeft(spot)) => Err(Outcome::StackLeft { spot: site(spot) }),
-        Err(WalkFault::StackDeep(spot)) => Err(Outcome::StackDeep { spot: site(spot) }),
-        Err(WalkFault::Overflow(spot)) => Err(Outcome::Overflow { spot: site(spot) }),
-        Err(WalkFault::Canvas(fault)) => match fault {},
-    }
-}
-
-/// Walks over all pages, and answers the fault of the first that can't be printed.
-pub fn check_pages(doc: &Doc<'_>, walker: &mut Walker) -> Result<(), Outcome>
-    requires read { IsRead doc.now }
-    requires short { length doc.now.bytes < 2 ^ 31 }
-    requires bare { (d : Document) → IsDoc doc.now.bytes d → Each IsBarePage d.pages }
-    ensures ready { (d : Document) → IsDoc doc.now.bytes d → OnOk result (Each (IsReady walker.old) d.pages) }
-    ensures cause { (d : Document) → IsDoc doc.now.bytes d → IfErr result (InSomePage walker.old d.pages) }
-    ensures kept { walker.new ≡ walker.old }
-{
-    one_document();
-    for page in 0..doc.pages().len() {
-        if let Err(outcome) = check_page(walker, &page_body(doc, page)) {
-            return Err(outcome);
-        }
-    }
+    let _ = walker.steps();
     Ok(())
+}
+
+/// Looks at all pages, and answers a walker for them and what they use, where they can be printed.
+pub fn check(
+    alloc: Global,
+    doc: &Doc<'_>,
+    conv: Conv,
+    fonts: &Fonts,
+) -> Result<(Walker, Usage), Outcome>
+    requires read { IsRead doc.now }
+    requires short { length doc.now.bytes < 2 ^ 31 }
+    requires covers { (d : Document) → IsDoc doc.now.bytes d → CoversPages fonts.now doc.now.fonts d.pages }
+    requires rasters { HasRasters fonts.now }
+    requires conv { conv ≡ pixels_of_one fonts.now.units }
+    ensures grid { IfOk result (λ r. r.0 ≡ record { grid = grid_with conv; steps = 0 }) }
+    ensures ready { (d : Document) → IsDoc doc.now.bytes d → OnOk result (Each (IsReady (grid_with conv) fonts.now doc.now.fonts) d.pages) }
+    ensures few { (d : Document) → IsDoc doc.now.bytes d → OnOk result (pages_count fonts.now doc.now.fonts d.pages ≤ most_steps) }
+    ensures uses { (d : Document) → IsDoc doc.now.bytes d → IfOk result (λ r. HasTaken r.1 (marks_in (grid_with conv) fonts.now doc.now.fonts d.pages)) }
+    ensures same { IfOk result (λ r. r.1.fonts ≡ length fonts.now.fonts) }
+    ensures reason { (d : Document) → IsDoc doc.now.bytes d → IfErr result (CheckFails (grid_with conv) fonts.now doc.now.fonts d.pages) }
+{
+    let mut walker = Walker::new(alloc, conv, conv, DRIFT)?;
+    let mut usage = Usage::new(alloc, fonts)?;
+    check_pages(doc, fonts, &mut walker, &mut usage)?;
+    walker.reset();
+    Ok((walker, usage))
 }

@@ -14,14 +14,15 @@
 //! ```
 #![tactic(auto)]
 
-mod blank;
-mod body;
 mod check;
+mod label;
+mod load;
 mod message;
 mod outcome;
 mod print;
 mod read;
 mod run;
+mod tell;
 #[cfg(test)]
 mod tests;
 mod words;

@@ -3,13 +3,16 @@ ghost use Rattle.std.specs.Prelude.{◌≡◌, ◌≤◌, ◌+◌, ◌++◌, ◌
 ghost use Rattle.std.specs.Option.{option_map};
 ghost use Rattle.std.specs.Fmt.{signed_decimal};
 ghost use Rattle.dv_base.specs.FileName.{text_of};
-ghost use Rattle.dv_top.specs.Message.{fault_text, message_of, named as named_with, outcome_text, site_text, units_text};
-ghost use Rattle.dv_top.specs.WholeRun.{SaysLine};
+ghost use Rattle.dv_top.specs.Message.{fault_text, message_of, named as named_with, outcome_text, pk_text, site_text, tfm_text, units_text, vf_text};
+ghost use Rattle.dv_top.specs.Lines.{SaysLine};
 
 use crate::outcome::Outcome;
 use dv_base::{FileName, Line, Site, Tray, Units};
 use dvi_doc::DocFault;
 use itoa::Integer;
+use pk_raster::PkFault;
+use tfm_widths::TfmFault;
+use vf_packets::VfFault;
 
 /// Appends a name with a number behind it.
 fn named<I: Integer>(line: &mut Line, name: &[u8], number: I)
@@ -50,6 +53,58 @@ fn fault(line: &mut Line, kind: DocFault)
     }
 }
 
+/// Appends the words of a fault of a TFM file.
+fn tfm(line: &mut Line, kind: TfmFault)
+    requires { length line.old ≤ 700 }
+    ensures { line.new ≡ line.old ++ tfm_text kind }
+{
+    match kind {
+        TfmFault::Short => line.text(b"Short"),
+        TfmFault::BadLengths => line.text(b"BadLengths"),
+        TfmFault::BadWidth(i) => named(line, b"BadWidth", i),
+        TfmFault::BadIndex(c) => named(line, b"BadIndex", c),
+        TfmFault::OutOfMemory => line.text(b"OutOfMemory"),
+    }
+}
+
+/// Appends the words of a fault of a PK file.
+fn pk(line: &mut Line, kind: PkFault)
+    requires { length line.old ≤ 700 }
+    ensures { line.new ≡ line.old ++ pk_text kind }
+{
+    match kind {
+        PkFault::BadPreamble => line.text(b"BadPreamble"),
+        PkFault::Undefined(at) => named(line, b"Undefined", at),
+        PkFault::Short(at) => named(line, b"Short", at),
+        PkFault::NoPost => line.text(b"NoPost"),
+        PkFault::Twice(c) => named(line, b"Twice", c),
+        PkFault::BadLength(c) => named(line, b"BadLength", c),
+        PkFault::RunsShort(c) => named(line, b"RunsShort", c),
+        PkFault::RunsPast(c) => named(line, b"RunsPast", c),
+        PkFault::RepeatTwice(c) => named(line, b"RepeatTwice", c),
+        PkFault::Space => line.text(b"Space"),
+        PkFault::OutOfMemory => line.text(b"OutOfMemory"),
+    }
+}
+
+/// Appends the words of a fault of a VF file.
+fn vf(line: &mut Line, kind: VfFault)
+    requires { length line.old ≤ 700 }
+    ensures { line.new ≡ line.old ++ vf_text kind }
+{
+    match kind {
+        VfFault::BadPreamble => line.text(b"BadPreamble"),
+        VfFault::BadOrder(at) => named(line, b"BadOrder", at),
+        VfFault::Short(at) => named(line, b"Short", at),
+        VfFault::BadOp(c) => named(line, b"BadOp", c),
+        VfFault::Twice(c) => named(line, b"Twice", c),
+        VfFault::FontTwice(k) => named(line, b"FontTwice", k),
+        VfFault::BadName(k) => named(line, b"BadName", k),
+        VfFault::NoPost => line.text(b"NoPost"),
+        VfFault::OutOfMemory => line.text(b"OutOfMemory"),
+    }
+}
+
 /// Appends a name with a site behind it.
 fn site(line: &mut Line, name: &[u8], site: &Site)
     requires { length line.old + length name.now ≤ 100 }
@@ -81,14 +136,36 @@ fn four(line: &mut Line, name: &[u8], units: &Units)
     line.number(units.dpi);
 }
 
-/// Appends a name with the name of a file behind it.
+/// Appends a name with the name of a file or a font behind it.
 fn file(line: &mut Line, name: &[u8], file: &FileName)
     requires { length line.old + length name.now ≤ 100 }
-    ensures { line.new ≡ line.old ++ named_with name.now (text_of file.now) }
+    ensures value { line.new ≡ line.old ++ named_with name.now (text_of file.now) }
+    ensures len { length line.new ≤ length line.old + length name.now + 541 }
 {
     line.text(name);
     line.text(b" ");
     line.text(file.as_str().as_bytes());
+}
+
+/// Appends a name with the name of a font and the code of a character behind it.
+fn code<I: Integer>(line: &mut Line, name: &[u8], font: &FileName, code: I)
+    requires { length line.old + length name.now ≤ 100 }
+    ensures value { line.new ≡ line.old ++ named_with name.now (named_with (text_of font.now) (I.text code)) }
+    ensures len { length line.new ≤ length line.old + length name.now + 582 }
+{
+    file(line, name, font);
+    line.text(b" ");
+    line.number(code);
+}
+
+/// Appends a name with the name of a font and two numbers behind it.
+fn pair<I: Integer, J: Integer>(line: &mut Line, name: &[u8], font: &FileName, first: I, second: J)
+    requires { length line.old + length name.now ≤ 100 }
+    ensures { line.new ≡ line.old ++ named_with name.now (named_with (text_of font.now) (named_with (I.text first) (J.text second))) }
+{
+    code(line, name, font, first);
+    line.text(b" ");
+    line.number(second);
 }
 
 /// Appends what is said of an outcome: its name, and each of its fields behind a space.
@@ -98,18 +175,45 @@ fn words(line: &mut Line, outcome: &Outcome)
 {
     match outcome {
         Outcome::Done => {}
-        Outcome::NotBuilt { at } => named(line, b"NotBuilt", *at),
         Outcome::BadDvi { kind } => {
             line.text(b"BadDvi ");
             fault(line, *kind);
         }
+        Outcome::BadTfm { name, kind } => {
+            file(line, b"BadTfm", name);
+            line.text(b" ");
+            tfm(line, *kind);
+        }
+        Outcome::BadPk { name, kind } => {
+            file(line, b"BadPk", name);
+            line.text(b" ");
+            pk(line, *kind);
+        }
+        Outcome::BadVf { name, kind } => {
+            file(line, b"BadVf", name);
+            line.text(b" ");
+            vf(line, *kind);
+        }
         Outcome::Missing { name } => file(line, b"Missing", name),
         Outcome::FileTooLong { name } => file(line, b"FileTooLong", name),
+        Outcome::UndefinedFont { spot } => site(line, b"UndefinedFont", spot),
+        Outcome::NoFont { spot } => site(line, b"NoFont", spot),
         Outcome::StackUnder { spot } => site(line, b"StackUnder", spot),
         Outcome::StackLeft { spot } => site(line, b"StackLeft", spot),
         Outcome::StackDeep { spot } => site(line, b"StackDeep", spot),
         Outcome::Overflow { spot } => site(line, b"Overflow", spot),
+        Outcome::NoChar { font, code: z } => code(line, b"NoChar", font, *z),
+        Outcome::NoPacket { font, code: c } => code(line, b"NoPacket", font, *c),
+        Outcome::NoGlyph { font, code: c } => code(line, b"NoGlyph", font, *c),
+        Outcome::NestDeep { font, code: c } => code(line, b"NestDeep", font, *c),
+        Outcome::GlyphTooBig { font, code, bytes } => {
+            pair(line, b"GlyphTooBig", font, *code, *bytes);
+        }
+        Outcome::BadSize { font, size, design } => pair(line, b"BadSize", font, *size, *design),
         Outcome::BadConv { units } => four(line, b"BadConv", units),
+        Outcome::TooManyFonts => line.text(b"TooManyFonts"),
+        Outcome::TooManySteps => line.text(b"TooManySteps"),
+        Outcome::RasterSpace => line.text(b"RasterSpace"),
         Outcome::BadWords { index } => named(line, b"BadWords", *index),
         Outcome::ReadFault { name } => file(line, b"ReadFault", name),
         Outcome::WriteFault => line.text(b"WriteFault"),

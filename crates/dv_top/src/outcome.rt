@@ -1,40 +1,121 @@
 //! How a run ends.
 ghost use Rattle.std.specs.Prelude.{◌≡◌};
 ghost use Rattle.dv_top.specs.Status.{status_of};
-ghost use Rattle.dv_top.specs.Unread.{unread};
 ghost use Rattle.dv_top.specs.declared.outcome.Outcome.TheVariants as variant;
 
 use dv_base::{FileName, Site, Units, WriteFault};
 use dvi_doc::DocFault;
+use pk_raster::PkFault;
 use std::alloc::AllocError;
+use tfm_widths::TfmFault;
+use vf_packets::VfFault;
 
-/// How a run ended.
+/// How a run ended. A `font` is the name of a font, a `name` that of a file, a `spot` the place of a command.
 #[derive(Clone, Copy, Drop)]
 pub enum Outcome {
     /// The text was written whole.
     Done,
-    /// A page sets a character or selects a font, which isn't built yet; the first such command stands at this place.
-    NotBuilt { at: u32 },
     /// The bytes are no DVI document.
-    BadDvi { kind: DocFault },
-    /// The shelf has no file of this name.
-    Missing { name: FileName },
+    BadDvi {
+        kind: DocFault,
+    },
+    /// The bytes are no TFM file.
+    BadTfm {
+        name: FileName,
+        kind: TfmFault,
+    },
+    /// The bytes are no PK file.
+    BadPk {
+        name: FileName,
+        kind: PkFault,
+    },
+    /// The bytes are no VF file.
+    BadVf {
+        name: FileName,
+        kind: VfFault,
+    },
+    /// The shelf has no file of this name. Of the candidates for a font's bitmaps it is the last one.
+    Missing {
+        name: FileName,
+    },
     /// The file of this name has more bytes than its limit.
-    FileTooLong { name: FileName },
-    /// A pop at this place has no push.
-    StackUnder { spot: Site },
-    /// A push is still open at the end of the page, whose eop stands at this place.
-    StackLeft { spot: Site },
-    /// The push at this place would be open as the 1,001st.
-    StackDeep { spot: Site },
-    /// The command at this place would pass 2^31 - 1 units.
-    Overflow { spot: Site },
+    FileTooLong {
+        name: FileName,
+    },
+    /// The command selects a number that its page or packet doesn't define.
+    UndefinedFont {
+        spot: Site,
+    },
+    /// A character is set, and no font is selected.
+    NoFont {
+        spot: Site,
+    },
+    /// A pop has no push in its page or packet.
+    StackUnder {
+        spot: Site,
+    },
+    /// A push is still open at the end of its page or packet; the place is that of the page's eop, or the packet's length.
+    StackLeft {
+        spot: Site,
+    },
+    /// The push would be open as the 1,001st, over the page and the packets around it.
+    StackDeep {
+        spot: Site,
+    },
+    /// The command would pass 2^31 - 1 units.
+    Overflow {
+        spot: Site,
+    },
+    /// The code isn't from 0 to 255, or the font has no width for it.
+    NoChar {
+        font: FileName,
+        code: i64,
+    },
+    /// The virtual font has no packet for the code.
+    NoPacket {
+        font: FileName,
+        code: u8,
+    },
+    /// The font has no bitmap for the code.
+    NoGlyph {
+        font: FileName,
+        code: u8,
+    },
+    /// A character of this virtual font is met 16 packets deep.
+    NestDeep {
+        font: FileName,
+        code: u8,
+    },
+    /// The font's bitmap for the code would have this many bytes, which are more than 65,535.
+    GlyphTooBig {
+        font: FileName,
+        code: u8,
+        bytes: u64,
+    },
+    /// The size or the design size of a local font, in DVI units, isn't from 1 to 2^27 - 1.
+    BadSize {
+        font: FileName,
+        size: i64,
+        design: i64,
+    },
     /// These units turn into no pixels.
-    BadConv { units: Units },
+    BadConv {
+        units: Units,
+    },
+    /// More than 1,000 fonts are selected.
+    TooManyFonts,
+    /// The pages have more than 50,000,000 commands, those of packets counted.
+    TooManySteps,
+    /// The bitmaps of all fonts would be more than 1,073,741,824 bytes.
+    RasterSpace,
     /// The word at this index is the first that no accepted list has there.
-    BadWords { index: usize },
+    BadWords {
+        index: usize,
+    },
     /// The file of this name couldn't be read.
-    ReadFault { name: FileName },
+    ReadFault {
+        name: FileName,
+    },
     /// The output couldn't be written.
     WriteFault,
     /// Memory was refused.
@@ -71,16 +152,5 @@ impl From<WriteFault> for Outcome {
 
     fn from(_: WriteFault) -> Outcome {
         Outcome::WriteFault
-    }
-}
-
-impl From<DocFault> for Outcome {
-    ghost from_gives = { λ kind outcome. outcome ≡ unread kind };
-
-    fn from(kind: DocFault) -> Outcome {
-        match kind {
-            DocFault::OutOfMemory => Outcome::OutOfMemory,
-            kind => Outcome::BadDvi { kind },
-        }
     }
 }

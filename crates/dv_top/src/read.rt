@@ -2,7 +2,7 @@
 ghost use Rattle.std.specs.Prelude.{◌≡◌, ◌≤◌, IfErr, IfOk, Some, length};
 ghost use Rattle.dv_base.specs.FileName.{text_of};
 ghost use Rattle.dv_base.specs.Shelf.{Keeps, WhereHeld};
-ghost use Rattle.dv_top.specs.Reading.{IsReadCause};
+ghost use Rattle.dv_top.specs.Reasons.{NotRead};
 
 use crate::outcome::Outcome;
 use dv_base::{FileName, Got, Shelf};
@@ -18,7 +18,7 @@ pub fn read_input<S: Shelf>(
     shelf: &mut S,
 ) -> Result<Vec<u8>, Outcome>
     ensures bytes { IfOk result (λ v. (length v.items ≤ 1000000) × WhereHeld (S.told shelf.old).held (λ held. held (text_of name.now) ≡ Some v.items)) }
-    ensures cause { IfErr result (IsReadCause (text_of name.now) 1000000 (S.told shelf.old) (S.told shelf.new)) }
+    ensures cause { IfErr result (NotRead (text_of name.now) 1000000 (S.told shelf.old) (S.told shelf.new)) }
     ensures keeps { Keeps (S.told shelf.old) (S.told shelf.new) }
 {
     let name = *name;

@@ -18,14 +18,28 @@ const RULE: [u8; 128] = [
     0, 0x58, 2, 0xdf, 0xdf, 0xdf, 0xdf, 0xdf,
 ];
 
-/// A document whose one page sets a character.
-const ONE: [u8; 144] = [
-    0xf7, 2, 1, 0x83, 0x92, 0xc0, 0x1c, 0x3b, 0, 0, 0, 0, 3, 0xe8, 0, 0x8b, 0, 0, 0, 1, 0, 0, 0, 0,
-    0, 0, 0, 0, 0, 0, 0, 0, 0, 0, 0, 0, 0, 0, 0, 0, 0, 0, 0, 0, 0, 0, 0, 0, 0, 0, 0, 0, 0, 0, 0, 0,
-    0xff, 0xff, 0xff, 0xff, 0xf3, 0, 0, 0, 0, 0, 0, 0x0a, 0, 0, 0, 0x0a, 0, 0, 0, 5, 0x63, 0x6d,
-    0x72, 0x31, 0x30, 0xab, 0x41, 0x8c, 0xf8, 0, 0, 0, 0x0f, 1, 0x83, 0x92, 0xc0, 0x1c, 0x3b, 0, 0,
-    0, 0, 3, 0xe8, 0, 0, 0, 0, 0, 0, 0, 0, 0, 0, 0, 1, 0xf3, 0, 0, 0, 0, 0, 0, 0x0a, 0, 0, 0, 0x0a,
-    0, 0, 0, 5, 0x63, 0x6d, 0x72, 0x31, 0x30, 0xf9, 0, 0, 0, 0x54, 2, 0xdf, 0xdf, 0xdf, 0xdf,
+/// A TFM file with the codes 65 and 66, each half the size wide.
+const TFM: [u8; 48] = [
+    0, 12, 0, 2, 0, 65, 0, 66, 0, 2, 0, 0, 0, 0, 0, 0, 0, 0, 0, 0, 0, 0, 0, 0, 0, 0, 0, 0, 0, 0xa0,
+    0, 0, 1, 0, 0, 0, 1, 0, 0, 0, 0, 0, 0, 0, 0, 8, 0, 0,
+];
+
+/// A PK file with a black bitmap of 4 by 2 pixels for the code 65.
+const PK: [u8; 32] = [
+    0xf7, 0x59, 0, 0, 0xa0, 0, 0, 0, 0, 0, 0, 0, 0, 0, 0, 0, 0, 0, 0, 0xe0, 9, 0x41, 8, 0, 0, 0x15,
+    4, 2, 0, 1, 0xff, 0xf5,
+];
+
+/// A PK file with 8 by 65,536 pixels for the code 65.
+const LARGE: [u8; 57] = [
+    0xf7, 0x59, 0, 0, 0xa0, 0, 0, 0, 0, 0, 0, 0, 0, 0, 0, 0, 0, 0, 0, 0xe7, 0, 0, 0, 28, 0, 0, 0,
+    0x41, 0, 8, 0, 0, 0, 0, 0, 0, 0, 0, 0, 0, 0, 0, 0, 8, 0, 1, 0, 0, 0, 0, 0, 0, 0, 0, 0, 0, 0xf5,
+];
+
+/// What begins a VF file with one local font, `cmr10` at the virtual font's own size.
+const VF: [u8; 32] = [
+    0xf7, 0xca, 0, 0, 0, 0, 0, 0, 0xa0, 0, 0, 0xf3, 0, 0, 0, 0, 0, 0, 0x10, 0, 0, 0, 0xa0, 0, 0, 0,
+    5, 0x63, 0x6d, 0x72, 0x31, 0x30,
 ];
 
 /// The text of the page of rules at 300 dots an inch: what stands before the prolog, and what stands behind it.
@@ -140,12 +154,18 @@ enum File<'a> {
     Changed(usize, &'a [u8]),
     /// The page of rules, with a denominator of 0.
     NoUnits,
-    /// The page of a character.
-    Character,
 }
 
-/// A document with these pages.
-fn document(alloc: Global, pages: &[(i32, &[u8])]) -> Result<Vec<u8>, Fail> {
+/// The definition of a font of this number, of 655,360 units.
+fn define(bytes: &mut Vec<u8>, number: u8, name: &str) -> Result<(), Fail> {
+    bytes.extend_from_slice(&[243, number, 0, 0, 0, 0, 0, 10, 0, 0, 0, 10, 0, 0, 0])?;
+    bytes.push(u8::try_from(name.len())?)?;
+    bytes.extend_from_slice(name.as_bytes())?;
+    Ok(())
+}
+
+/// A document with these fonts, numbered from 0, and these pages.
+fn document(alloc: Global, fonts: &[&str], pages: &[(i32, &[u8])]) -> Result<Vec<u8>, Fail> {
     let mut bytes = Vec::from_slice(alloc, &RULE[..15])?;
     let mut last = -1_i32;
     for (count, commands) in pages {
@@ -164,6 +184,9 @@ fn document(alloc: Global, pages: &[(i32, &[u8])]) -> Result<Vec<u8>, Fail> {
     bytes.extend_from_slice(&RULE[2..14])?;
     bytes.extend_from_slice(&[0; 10])?;
     bytes.extend_from_slice(&u16::try_from(pages.len())?.to_be_bytes())?;
+    for (number, name) in fonts.iter().enumerate() {
+        define(&mut bytes, u8::try_from(number)?, name)?;
+    }
     bytes.push(249)?;
     bytes.extend_from_slice(&post.to_be_bytes())?;
     bytes.extend_from_slice(&[2, 223, 223, 223, 223])?;
@@ -175,15 +198,15 @@ fn bytes_of(alloc: Global, file: &File<'_>) -> Result<Option<Vec<u8>>, Fail> {
     let mut rule = RULE;
     let bytes = match file {
         File::Absent => return Ok(None),
-        File::Pages(pages) => document(alloc, pages)?,
+        File::Pages(pages) => document(alloc, &[], pages)?,
         File::Pushes(count) => {
             let mut page = Vec::new(alloc);
             page.resize(*count, 141)?;
             page.resize(count.saturating_add(*count), 142)?;
-            document(alloc, &[(1, page.as_slice())])?
+            document(alloc, &[], &[(1, page.as_slice())])?
         }
         File::Long(length) => {
-            let mut bytes = document(alloc, &[])?;
+            let mut bytes = document(alloc, &[], &[])?;
             bytes.resize(*length, 223)?;
             bytes
         }
@@ -200,7 +223,6 @@ fn bytes_of(alloc: Global, file: &File<'_>) -> Result<Option<Vec<u8>>, Fail> {
             }
             Vec::from_slice(alloc, &rule)?
         }
-        File::Character => Vec::from_slice(alloc, &ONE)?,
     };
     Ok(Some(bytes))
 }
@@ -240,6 +262,201 @@ fn end_of(alloc: Global, words: &str, file: &File<'_>, outside: &Outside) -> Res
     let text = written.split("%%EndSetup\n").nth(1).unwrap_or("");
     let name = tray.name().unwrap_or("nothing");
     Ok(format!(in alloc; "{status} {name} {text}{said}")?)
+}
+
+/// A file of a font.
+#[derive(Clone, Copy, Drop)]
+enum FontFile<'a> {
+    /// These bytes.
+    Plain(&'a [u8]),
+    /// A VF file with this packet for the code 65.
+    Packet(&'a [u8]),
+    /// So many bytes 0.
+    Zeros(usize),
+}
+
+/// The bytes of a font's file.
+fn font_file(alloc: Global, file: &FontFile<'_>) -> Result<Vec<u8>, Fail> {
+    let mut bytes = Vec::new(alloc);
+    match file {
+        FontFile::Plain(plain) => bytes.extend_from_slice(plain)?,
+        FontFile::Packet(packet) => {
+            bytes.extend_from_slice(&VF)?;
+            bytes.push(u8::try_from(packet.len())?)?;
+            bytes.extend_from_slice(&[65, 8, 0, 0])?;
+            bytes.extend_from_slice(packet)?;
+            bytes.push(0xf8)?;
+        }
+        FontFile::Zeros(length) => bytes.resize(*length, 0)?,
+    }
+    Ok(bytes)
+}
+
+/// How a run ends on a document with the fonts `cmr10` and `vir`, whose one page has these commands, and on these files.
+fn print(
+    alloc: Global,
+    page: &[u8],
+    files: &[(&str, FontFile<'_>)],
+    fails: u32,
+) -> Result<String, Fail> {
+    let mut shelf = MemShelf::new(alloc);
+    let bytes = document(alloc, &["cmr10", "vir"], &[(1, page)])?;
+    shelf.add("rule.dvi", bytes.as_slice())?;
+    for (name, file) in files {
+        let bytes = font_file(alloc, file)?;
+        shelf.add(name, bytes.as_slice())?;
+    }
+    shelf.fail_at(fails)?;
+    let mut tray = tray(alloc, ROOM, 0)?;
+    let words = words(alloc, "rule")?;
+    let outcome = run_tool(alloc, &words, &mut shelf, &mut tray);
+    let status = outcome.status();
+    let said = str::from_utf8(tray.said())?;
+    let written = str::from_utf8(tray.written())?;
+    let text = written.split("%%EndSetup\n").nth(1).unwrap_or("");
+    Ok(format!(in alloc; "{status} {text}{said}")?)
+}
+
+#[test]
+fn fonts_of_a_page(rt: HostRuntime) -> Result<(), Fail> {
+    let tfm = ("cmr10.tfm", FontFile::Plain(&TFM));
+    let pk = ("cmr10.300pk", FontFile::Plain(&PK));
+    let vir = ("vir.tfm", FontFile::Plain(&TFM));
+    // one character of cmr10; of vir, whose packet sets it in cmr10 from where the page's w has moved, and not by its own w
+    let one =
+        "0 bos\n/F0 FB\n65[4 2 true[1 0 0 1 0 1]{<f0f0>}21 0 0 -1 4 1]D\nE\n%%Page: 1 1\nbop\nF0 F\n(A)p\neop\neos\n%%Trailer\nend\n%%EOF\n";
+    let moved =
+        "0 bos\n/F1 FB\n65[4 2 true[1 0 0 1 0 1]{<f0f0>}21 0 0 -1 4 1]D\nE\n%%Page: 1 1\nbop\nF1 F\n6 w\n(A)p\neop\neos\n%%Trailer\nend\n%%EOF\n";
+    let packet = ("vir.vf", FontFile::Packet(&[147, 65]));
+    let rows = [
+        (&[171, 65][..], [tfm, pk, vir, packet], one),
+        (
+            &[172, 150, 1, 134, 160, 65][..],
+            [tfm, pk, vir, packet],
+            moved,
+        ),
+        // font 1 is selected inside a push, and stays so behind the pop
+        (
+            &[171, 141, 172, 142, 65][..],
+            [
+                tfm,
+                pk,
+                vir,
+                ("vir.vf", FontFile::Packet(&[145, 1, 134, 160, 65])),
+            ],
+            "0 bos\n/F0 FB\n65[4 2 true[1 0 0 1 0 1]{<f0f0>}21 0 0 -1 4 1]D\nE\n%%Page: 1 1\nbop\nF0 F\n4 w\n(A)p\neop\neos\n%%Trailer\nend\n%%EOF\n",
+        ),
+    ];
+    for (page, files, want) in &rows {
+        let end = print(rt.alloc(), page, files, 0)?;
+        assert_eq!(rt; end.as_str(), *want);
+    }
+    Ok(())
+}
+
+#[test]
+fn faults_of_fonts(rt: HostRuntime) -> Result<(), Fail> {
+    let tfm = ("cmr10.tfm", FontFile::Plain(&TFM));
+    let pk = ("cmr10.300pk", FontFile::Plain(&PK));
+    let vir = ("vir.tfm", FontFile::Plain(&TFM));
+    let packet = ("vir.vf", FontFile::Packet(&[65]));
+    let rows = [
+        (
+            &[176][..],
+            [tfm, pk, vir, packet],
+            0,
+            "1 texdvi: UndefinedFont page 60\n",
+        ),
+        (
+            &[65][..],
+            [tfm, pk, vir, packet],
+            0,
+            "1 texdvi: NoFont page 60\n",
+        ),
+        (
+            &[171, 0][..],
+            [tfm, pk, vir, packet],
+            0,
+            "1 texdvi: NoChar cmr10 0\n",
+        ),
+        (
+            &[171, 66][..],
+            [tfm, pk, vir, packet],
+            0,
+            "1 texdvi: NoGlyph cmr10 66\n",
+        ),
+        (
+            &[172, 66][..],
+            [tfm, pk, vir, packet],
+            0,
+            "1 texdvi: NoPacket vir 66\n",
+        ),
+        (
+            &[171, 65][..],
+            [tfm, ("cmr10.300pk", FontFile::Plain(&LARGE)), vir, packet],
+            0,
+            "1 texdvi: GlyphTooBig cmr10 65 65536\n",
+        ),
+        (
+            &[171, 65][..],
+            [("x.tfm", FontFile::Plain(&TFM)), pk, vir, packet],
+            0,
+            "1 texdvi: Missing cmr10.tfm\n",
+        ),
+        (
+            &[171, 65][..],
+            [tfm, ("cmr10.302pk", FontFile::Plain(&PK)), vir, packet],
+            0,
+            "1 texdvi: Missing cmr10.301pk\n",
+        ),
+        (
+            &[171, 65][..],
+            [("cmr10.tfm", FontFile::Zeros(131_069)), pk, vir, packet],
+            0,
+            "1 texdvi: FileTooLong cmr10.tfm\n",
+        ),
+        (
+            &[171, 65][..],
+            [tfm, pk, vir, packet],
+            2,
+            "3 texdvi: ReadFault cmr10.vf\n",
+        ),
+        (
+            &[171, 65][..],
+            [("cmr10.tfm", FontFile::Zeros(10)), pk, vir, packet],
+            0,
+            "1 texdvi: BadTfm cmr10.tfm Short\n",
+        ),
+        (
+            &[171, 65][..],
+            [tfm, ("cmr10.300pk", FontFile::Zeros(10)), vir, packet],
+            0,
+            "1 texdvi: BadPk cmr10.300pk BadPreamble\n",
+        ),
+        (
+            &[172, 65][..],
+            [tfm, pk, vir, ("vir.vf", FontFile::Zeros(10))],
+            0,
+            "1 texdvi: BadVf vir.vf BadPreamble\n",
+        ),
+        (
+            &[172, 65][..],
+            [tfm, pk, vir, ("vir.vf", FontFile::Packet(&[142]))],
+            0,
+            "1 texdvi: StackUnder packet vir 65 0\n",
+        ),
+        (
+            &[172, 65][..],
+            [tfm, pk, vir, ("vir.vf", FontFile::Packet(&[171, 176, 65]))],
+            0,
+            "1 texdvi: UndefinedFont packet vir 65 1\n",
+        ),
+    ];
+    for (page, files, fails, want) in &rows {
+        let end = print(rt.alloc(), page, files, *fails)?;
+        assert_eq!(rt; end.as_str(), *want);
+    }
+    Ok(())
 }
 
 #[test]
@@ -292,7 +509,6 @@ fn every_outcome(rt: HostRuntime) -> Result<(), Fail> {
             File::Pages(&[(1, &[146, 127, 255, 255, 255, 143, 1])]),
             "1 nothing texdvi: Overflow page 65\n",
         ),
-        (File::Character, "1 nothing texdvi: NotBuilt 81\n"),
         (
             File::NoUnits,
             "1 nothing texdvi: BadConv 25400000 0 1000 300\n",

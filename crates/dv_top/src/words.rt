@@ -6,9 +6,8 @@ ghost use Rattle.std.specs.List.{list_all};
 ghost use Rattle.std.specs.Char.{is_ascii_digit};
 ghost use Rattle.dv_top.specs.Language.{IsWrongAt};
 ghost use Rattle.dv_top.specs.Words.{Accepted, begins, is_file_name, is_input_name, is_number, is_option, is_resolution, is_visible, passes_at, tests};
-ghost use Rattle.dv_top.specs.Job.{input_name, job_of};
+ghost use Rattle.dv_top.specs.Job.{IsGoodJob, input_name, job_of};
 ghost use Rattle.dv_top.specs.JobView.{job_view};
-ghost use Rattle.dv_top.specs.Printing.{IsGoodJob};
 ghost use Rattle.dv_base.specs.FileName.{text_of};
 
 use arrayvec::ArrayString;

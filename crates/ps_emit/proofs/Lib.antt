@@ -1,6 +1,15 @@
 pub mod Lines
 pub mod Ways
+pub mod Codes
+pub mod Blank
+pub mod HexRows
+pub mod Pieces
+pub mod Takes
+pub mod FontLines
+pub mod Those
+pub mod Uses
+pub mod Literals
+pub mod Sheets
 pub mod Joined
 pub mod Good
 pub mod Owed
-pub mod Takes

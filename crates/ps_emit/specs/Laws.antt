@@ -1,16 +1,22 @@
 -- The laws of the whole text, which the functions of src/laws.rt promise, and what they ask of a job.
-use Rattle.std.specs.Prelude.{ℕ, ◌≡◌, ◌<◌, ◌≤◌, ◌^◌, List, [], ◌∷◌, ◌++◌, pos, ◌<ℤ◌, unsigned_abs, Bool, true, ◌&&◌, nat_le, Some}
-use Rattle.std.specs.List.{list_all, Contains}
+use Rattle.std.specs.Prelude.{ℕ, ◌≡◌, ◌<◌, ◌≤◌, ◌^◌, List, [], ◌++◌, length, unsigned_abs, Bool, true, ◌&&◌, nat_le, Some}
+use Rattle.std.specs.List.{list_all, AllByRecursion, Contains}
 use Rattle.dv_base.specs.FileName as name
 use Rattle.positions.specs.Mark.{Mark}
-use Rattle.ps_subset.specs.State.{Event}
+use Rattle.pk_raster.specs.Font.{Bitmap}
+use Rattle.pk_raster.specs.Laws.{AreRows}
+use Rattle.font_set.specs.Fonts.{FontSet, bitmap_at}
+use Rattle.sections.specs.Used.{Used, HasTaken, is_used, used_in}
+use Rattle.ps_subset.specs.State.{Event, Character}
 use Rattle.ps_subset.specs.Run.{events}
-use Rattle.ps_subset.specs.Printout.{IsGoodText, text_of}
-use Rattle.ps_emit.specs.Items.{Painted}
-use Rattle.ps_emit.specs.PagesText.{RulePage, text_of_job, sections_of}
+use Rattle.ps_subset.specs.Blocks.{AllShort}
+use Rattle.ps_subset.specs.Marks.{without_texts}
+use Rattle.ps_subset.specs.Marked.{IsGoodMarked, printout_of}
+use Rattle.ps_subset.specs.Economy.{IsEconomical, page_texts, put_glyphs, sections_stretches, sections_glyphs}
+use Rattle.ps_emit.specs.Letters.{fonts_used}
+use Rattle.ps_emit.specs.Taken.{IsTakeable, AllTakeable}
+use Rattle.ps_emit.specs.Pages.{PrintedPage, Work, bytes_of_job, job_calls, text_of_job}
 use Rattle.ps_emit.specs.Expected.{expected}
-use Rattle.ps_emit.specs.Taken.{painted_of, IsTakeable}
-use Rattle.ps_emit.specs.Setup.{prologue_of, trailer_of}
 use Rattle.ps_emit.specs.declared.setup.Setup.{Setup}
 
 -- a visible character of ASCII
@@ -32,46 +38,61 @@ pub record IsGoodSetup (s : Setup) : Type 0 where
   pub copies_some : 1 ≤ s.copies
   pub copies_few : s.copies ≤ 999
 
--- a rule with columns and rows, whose numbers are below 2^32
-pub record IsGoodRule (r : Painted) : Type 0 where
-  pub x : unsigned_abs r.at.x < 2 ^ 32
-  pub y : unsigned_abs r.at.y < 2 ^ 32
-  pub columns_some : pos 0 <ℤ r.columns
-  pub columns : unsigned_abs r.columns < 2 ^ 32
-  pub rows_some : pos 0 <ℤ r.rows
-  pub rows : unsigned_abs r.rows < 2 ^ 32
+-- a set of at most 1,000 fonts, whose bitmaps have whole rows of at most 65,535 bytes
+pub record IsGoodSet (set : FontSet) : Type 0 where
+  pub few : length set.fonts ≤ 1000
+  pub rows : (id code : ℕ) (b : Bitmap) → bitmap_at set id code ≡ Some b → AreRows b
 
-abbrev pub AllGoodRules : List Painted → Type 0
-AllGoodRules [] = Unit {0}
-AllGoodRules (r ∷ rs) = IsGoodRule r × AllGoodRules rs
-
-pub record IsGoodRulePage (p : RulePage) : Type 0 where
+-- a page whose marks an emitter can take
+pub record IsGoodPage (set : FontSet) (p : PrintedPage) : Type 0 where
   pub label : unsigned_abs p.label ≤ 2 ^ 31
   pub number : p.number < 2 ^ 32
-  pub rules : AllGoodRules p.rules
+  pub marks : AllTakeable set p.marks
 
-abbrev pub AllGoodRulePages : List RulePage → Type 0
-AllGoodRulePages [] = Unit {0}
-AllGoodRulePages (p ∷ ps) = IsGoodRulePage p × AllGoodRulePages ps
+abbrev pub AllGoodPages : FontSet → List PrintedPage → Type 0
+AllGoodPages set ps = AllByRecursion (IsGoodPage set) ps
+
+-- all that is asked of a job
+pub record IsGoodWork (s : Setup) (w : Work) : Type 0 where
+  pub setup : IsGoodSetup s
+  pub headers : AllShort w.headers
+  pub fonts : IsGoodSet w.fonts
+  pub pages : AllByRecursion (AllGoodPages w.fonts) w.sections
 
 -- The text is one that the machine's laws speak of.
 abbrev pub TextIsGood : Type 0
-TextIsGood = (comments : Bool) (s : Setup) (pages : List RulePage) → IsGoodSetup s → AllGoodRulePages pages → IsGoodText (text_of_job comments s pages)
+TextIsGood = (comments : Bool) (s : Setup) (w : Work) → IsGoodWork s w → IsGoodMarked (text_of_job comments s w)
 
--- Its run gives exactly the events that the job owes.
+-- It has a run, whose events, but for the strings that are shown, are exactly those that the job owes.
 abbrev pub TextShows : Type 0
-TextShows = (comments : Bool) (s : Setup) (pages : List RulePage) → IsGoodSetup s → AllGoodRulePages pages → events (text_of (text_of_job comments s pages)) ≡ Some (expected comments s pages)
+TextShows = (comments : Bool) (s : Setup) (w : Work) → IsGoodWork s w → (es : List Event) × (events (bytes_of_job comments s w) ≡ Some es) × (without_texts es ≡ expected comments s w)
 
--- What stands of it up to any byte runs to the first of them.
+-- What stands of it up to any byte has a run, whose events without the strings are the first of those.
 abbrev pub CutTextShows : Type 0
 CutTextShows =
-    (comments : Bool) (s : Setup) (pages : List RulePage) → IsGoodSetup s → AllGoodRulePages pages → (xs ys : List ℕ) → text_of (text_of_job comments s pages) ≡ xs ++ ys →
-    (so_far : List Event) × (later : List Event) × (events xs ≡ Some so_far) × (expected comments s pages ≡ so_far ++ later)
+    (comments : Bool) (s : Setup) (w : Work) → IsGoodWork s w → (xs ys : List ℕ) → bytes_of_job comments s w ≡ xs ++ ys →
+    (so_far : List Event) × (later : List Event) × (events xs ≡ Some so_far) × (expected comments s w ≡ without_texts so_far ++ later)
+
+-- The strings of each page are its stretches, each glyph that a section uses is put once in it, and no other glyph is.
+abbrev pub TextSpares : Type 0
+TextSpares = (comments : Bool) (s : Setup) (w : Work) → IsGoodWork s w → (es : List Event) → events (bytes_of_job comments s w) ≡ Some es → IsEconomical (printout_of (text_of_job comments s w)) es
+
+-- Cut anywhere, it shows the first of these strings, and puts the first of these glyphs.
+abbrev pub CutTextSpares : Type 0
+CutTextSpares =
+    (comments : Bool) (s : Setup) (w : Work) → IsGoodWork s w → (xs ys : List ℕ) (so_far : List Event) → bytes_of_job comments s w ≡ xs ++ ys → events xs ≡ Some so_far →
+    let t = printout_of (text_of_job comments s w) in
+    ((later : List (List Event)) × (sections_stretches t.job t.sections ≡ page_texts [] so_far ++ later)) ×
+    ((later : List Character) × (sections_glyphs t.sections ≡ put_glyphs [] so_far ++ later))
 
 -- What the calls write one after another is the text.
 abbrev pub CallsMakeText : Type 0
-CallsMakeText = (comments : Bool) (s : Setup) (pages : List RulePage) → prologue_of comments s [] ++ (sections_of comments pages ++ trailer_of comments) ≡ text_of (text_of_job comments s pages)
+CallsMakeText = (comments : Bool) (s : Setup) (w : Work) → AllByRecursion (AllGoodPages w.fonts) w.sections → job_calls comments s w ≡ bytes_of_job comments s w
 
--- The rules among marks that an emitter can take are good.
-abbrev pub TakenAreGood : Type 0
-TakenAreGood = (fonts : ℕ) (marks : List Mark) → ((mark : Mark) → Contains marks mark → IsTakeable fonts mark) → AllGoodRules (painted_of marks)
+-- Marks of which each can be taken can all be taken.
+abbrev pub EachIsTakeable : Type 0
+EachIsTakeable = (set : FontSet) (marks : List Mark) → ((mark : Mark) → Contains marks mark → IsTakeable set mark) → AllTakeable set marks
+
+-- Where exactly the glyphs of these marks were taken, the fonts by what was taken are those by the marks.
+abbrev pub UsageGivesFonts : Type 0
+UsageGivesFonts = (set : FontSet) (u : Used) (marks : List Mark) → HasTaken u marks → u.fonts ≡ length set.fonts → fonts_used set (is_used u) ≡ fonts_used set (used_in marks)

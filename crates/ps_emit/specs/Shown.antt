@@ -1,10 +1,11 @@
--- What contracts see of an emitter: its tray, the loan of that tray, whether it writes comments, how many fonts its text has, and the
--- pixel at which the machine's place is.
-use Rattle.std.specs.Prelude.{◌≡◌, ℕ, Bool}
+-- What contracts see of an emitter: its tray, the loan of that tray, what it was made with, what went out of it, and what it keeps of the page.
+use Rattle.std.specs.Prelude.{◌≡◌, Bool}
 use Rattle.std.specs.Borrow.{GName}
 use Rattle.std.proofs.Common.{◌∙◌}
-use Rattle.ps_emit.specs.Items.{Pixel}
 use Rattle.dv_base.specs.declared.tray.Tray.{Ghosts}
+use Rattle.font_set.specs.Fonts.{FontSet}
+use Rattle.ps_emit.specs.Sheet.{Sheet}
+use Rattle.ps_emit.specs.Written.{Out}
 use Rattle.ps_emit.specs.declared.emitter.Emitter.{Emitter}
 
 abbrev pub tray_of : {T : Type 0} {G : Ghosts T} → Emitter T G → T
@@ -14,22 +15,36 @@ tray_of e = e.tray.now
 abbrev pub loan_of : {T : Type 0} {G : Ghosts T} → Emitter T G → GName
 loan_of e = e.tray.ghost_name
 
+-- the fonts of the run
+abbrev pub fonts_of : {T : Type 0} {G : Ghosts T} → Emitter T G → FontSet
+fonts_of e = e.fonts.now
+
+-- whether it writes structured comments, and whether it passes literal specials on
 abbrev pub comments_of : {T : Type 0} {G : Ghosts T} → Emitter T G → Bool
 comments_of e = e.comments
 
--- the fonts that the text has: those with numbers below this one
-abbrev pub fonts_of : {T : Type 0} {G : Ghosts T} → Emitter T G → ℕ
-fonts_of e = e.fonts
+abbrev pub pass_of : {T : Type 0} {G : Ghosts T} → Emitter T G → Bool
+pass_of e = e.pass_ps
 
-abbrev pub place_of : {T : Type 0} {G : Ghosts T} → Emitter T G → Pixel
-place_of e = record { x = e.x; y = e.y }
+-- what its tray shows, and how many bytes the tray has taken from it
+abbrev pub out_of : {T : Type 0} {G : Ghosts T} → Emitter T G → Out
+out_of {T} {G} e = record { seen = G.seen e.tray.now; count = e.bytes }
 
--- The emitter holds the same tray and writes comments as before, and its fonts and its place are the same.
-pub record Stays {T : Type 0} {G : Ghosts T} (old new : Emitter T G) : Type 0 where
+-- the pen behind the lines that were written, and the stretch that is still open
+abbrev pub sheet_of : {T : Type 0} {G : Ghosts T} → Emitter T G → Sheet
+sheet_of e = e.sheet
+
+-- The emitter holds the same tray and is as it was made.
+pub record Holds {T : Type 0} {G : Ghosts T} (old new : Emitter T G) : Type 0 where
   pub loan_same : loan_of new ≡ loan_of old
-  pub comments_same : comments_of new ≡ comments_of old
   pub fonts_same : fonts_of new ≡ fonts_of old
-  pub place_same : place_of new ≡ place_of old
+  pub comments_same : comments_of new ≡ comments_of old
+  pub pass_same : pass_of new ≡ pass_of old
 
-pub stays_more : {T : Type 0} {G : Ghosts T} (a b c : Emitter T G) → Stays a b → Stays b c → Stays a c
-stays_more a b c f g = record { loan_same = g.loan_same ∙ f.loan_same; comments_same = g.comments_same ∙ f.comments_same; fonts_same = g.fonts_same ∙ f.fonts_same; place_same = g.place_same ∙ f.place_same }
+pub holds_more : {T : Type 0} {G : Ghosts T} (a b c : Emitter T G) → Holds a b → Holds b c → Holds a c
+holds_more a b c f g = record {
+  loan_same = g.loan_same ∙ f.loan_same;
+  fonts_same = g.fonts_same ∙ f.fonts_same;
+  comments_same = g.comments_same ∙ f.comments_same;
+  pass_same = g.pass_same ∙ f.pass_same;
+}

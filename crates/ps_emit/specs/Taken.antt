@@ -1,48 +1,39 @@
--- What an emitter takes as a canvas: a painted rule is written, a special is passed over, and a glyph can be given to it only of a font that its
--- text has, of which there is none yet.
-use Rattle.std.specs.Prelude.{◌≡◌, ◌<◌, List, [], ◌∷◌, ℕ, pos, ◌<ℤ◌}
-use Rattle.dv_base.specs.Tray.{Seen}
+-- What an emitter takes as a canvas: the lines of each mark are written, but for that of the stretch that is still open.
+use Rattle.std.specs.Prelude.{◌≡◌, ◌<◌, List, pos, ◌<ℤ◌, Some}
+use Rattle.std.specs.List.{AllByRecursion}
 use Rattle.dv_base.specs.declared.tray.Tray.{Ghosts}
 use Rattle.positions.specs.Mark.{Mark, IsModerate}
 use Rattle.positions.specs.Mark.Mark.{OfGlyph, OfRule, OfSpecial}
-use Rattle.ps_emit.specs.Items.{Pixel, Painted, rules_lines, place_after}
-use Rattle.ps_emit.specs.Written.{Wrote, Cut}
-use Rattle.ps_emit.specs.Shown.{tray_of, loan_of, comments_of, fonts_of, place_of}
+use Rattle.pk_raster.specs.Font.{Bitmap}
+use Rattle.font_set.specs.Fonts.{FontSet, bitmap_at, pixels_at}
+use Rattle.ps_emit.specs.Sheet.{mark_lines, marks_lines, marks_sheet}
+use Rattle.ps_emit.specs.Written.{Out, Wrote, Cut}
+use Rattle.ps_emit.specs.Shown.{Holds, fonts_of, out_of, pass_of, sheet_of}
 use Rattle.ps_emit.specs.declared.emitter.Emitter.{Emitter}
 
--- the painted rules among marks
-abbrev pub painted_of : List Mark → List Painted
-painted_of [] = []
-painted_of (OfGlyph g ∷ ms) = painted_of ms
-painted_of (OfRule r ∷ ms) = record { at = record { x = r.x; y = r.y }; columns = r.columns; rows = r.rows } ∷ painted_of ms
-painted_of (OfSpecial s ∷ ms) = painted_of ms
+-- A glyph is one of a font with a bitmap for its code and has the font's width, a rule has columns and rows, and the numbers of a mark are not too
+-- large.
+abbrev pub IsTakeable : FontSet → Mark → Type 0
+IsTakeable set (OfGlyph g) = IsModerate (OfGlyph g) × (g.code < 256) × (pixels_at set g.font g.code ≡ Some g.pixels) × ((b : Bitmap) × (bitmap_at set g.font g.code ≡ Some b))
+IsTakeable set (OfRule r) = IsModerate (OfRule r) × (pos 0 <ℤ r.columns) × (pos 0 <ℤ r.rows)
+IsTakeable set (OfSpecial s) = IsModerate (OfSpecial s)
 
--- their lines, from the place that the lines before leave
-abbrev pub mark_lines : Pixel → List Mark → List ℕ
-mark_lines from marks = rules_lines from (painted_of marks)
-
--- A glyph's font is one of those that the text has, a rule has columns and rows, and the numbers of a mark are not too large.
-abbrev pub IsTakeable : ℕ → Mark → Type 0
-IsTakeable fonts (OfGlyph g) = (g.font < fonts) × IsModerate (OfGlyph g)
-IsTakeable fonts (OfRule r) = (pos 0 <ℤ r.columns) × (pos 0 <ℤ r.rows) × IsModerate (OfRule r)
-IsTakeable fonts (OfSpecial s) = IsModerate (OfSpecial s)
+abbrev pub AllTakeable : FontSet → List Mark → Type 0
+AllTakeable set marks = AllByRecursion (IsTakeable set) marks
 
 -- An output has been begun, and the mark is one that can be taken.
 abbrev pub CanTake : {T : Type 0} {G : Ghosts T} → Emitter T G → Mark → Type 0
-CanTake {T} {G} e mark = (0 < (G.seen (tray_of e)).begun) × IsTakeable (fonts_of e) mark
+CanTake {T} {G} e mark = (0 < (out_of e).seen.begun) × IsTakeable (fonts_of e) mark
 
--- the lines of these marks have been written, and the place is behind the last of them
+-- the lines of these marks have been written, and what is kept is what stands behind them
 pub record Took {T : Type 0} {G : Ghosts T} (old new : Emitter T G) (marks : List Mark) : Type 0 where
-  pub wrote : Wrote (mark_lines (place_of old) marks) (G.seen (tray_of old)) (G.seen (tray_of new))
-  pub loan_same : loan_of new ≡ loan_of old
-  pub comments_same : comments_of new ≡ comments_of old
-  pub fonts_same : fonts_of new ≡ fonts_of old
-  pub place : place_of new ≡ place_after (place_of old) (painted_of marks)
+  pub wrote : Wrote (marks_lines (pass_of old) (sheet_of old) marks) (out_of old) (out_of new)
+  pub sheet : sheet_of new ≡ marks_sheet (pass_of old) (sheet_of old) marks
+  pub holds : Holds old new
 
 -- The lines of these marks have been written, and then a front of the lines of the next one, at which the count of faults rose.
 pub record Refused {T : Type 0} {G : Ghosts T} (old new : Emitter T G) (marks : List Mark) (mark : Mark) : Type 0 where
-  pub between : Seen
-  pub wrote : Wrote (mark_lines (place_of old) marks) (G.seen (tray_of old)) between
-  pub cut : Cut (mark_lines (place_after (place_of old) (painted_of marks)) (mark ∷ [])) between (G.seen (tray_of new))
-  pub loan_same : loan_of new ≡ loan_of old
-  pub comments_same : comments_of new ≡ comments_of old
+  pub between : Out
+  pub wrote : Wrote (marks_lines (pass_of old) (sheet_of old) marks) (out_of old) between
+  pub cut : Cut (mark_lines (pass_of old) (marks_sheet (pass_of old) (sheet_of old) marks) mark) between (out_of new)
+  pub holds : Holds old new

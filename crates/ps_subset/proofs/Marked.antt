@@ -147,7 +147,7 @@ good_sections : (ss : List Section) → AllGoodSections ss → printout.AllGoodS
 good_sections [] all = tt
 good_sections (s ∷ ss) all = (record { fonts = (all.0).0; few = (all.0).1; pages = good_pages s.fonts s.pages (all.0).2 }, good_sections ss all.1)
 
-good_printed : (t : MarkedPrintout) → IsGoodMarked t → IsGoodText (printout_of t)
+pub good_printed : (t : MarkedPrintout) → IsGoodMarked t → IsGoodText (printout_of t)
 good_printed t g = record { head = g.head; headers = g.headers; copies_some = g.copies_some; copies = g.copies; job = g.job; sections = good_sections t.sections g.sections }
 
 pub events_of_marks : EventsOfMarks

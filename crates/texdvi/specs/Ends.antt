@@ -5,7 +5,8 @@ use Rattle.dv_base.specs.Shelf.{Told}
 use Rattle.dv_base.specs.Tray.{Seen}
 use Rattle.dv_top.specs.Message.{message_of}
 use Rattle.dv_top.specs.Status.{status_of}
-use Rattle.dv_top.specs.WholeRun.{Runs, SaysLine}
+use Rattle.dv_top.specs.Lines.{SaysLine}
+use Rattle.dv_top.specs.WholeRun.{Runs}
 use Rattle.dv_top.specs.declared.outcome.Outcome.{Outcome}
 use Rattle.dv_top.specs.declared.outcome.Outcome.TheVariants as outcome
 

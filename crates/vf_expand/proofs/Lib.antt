@@ -1,12 +1,20 @@
 pub mod Walk
-pub mod Sizes
-pub mod Depth
-pub mod Frame
-pub mod Bare
-pub mod Stopping
-pub mod Passing
-pub mod Lexing
 pub mod TreeLaws
+pub mod Sizes
+pub mod Passing
+pub mod Bytes
+pub mod Stopping
+pub mod Coming
+pub mod Later
+pub mod Naming
+pub mod Covering
+pub mod Chars
+pub mod Counting
+pub mod Turns
+pub mod Expansion
+pub mod Packets
+mod Rooms
+mod Amounts
+mod Selecting
+pub mod Paging
 pub mod Faultless
-pub mod Halting
-pub mod Nops

@@ -1,25 +1,21 @@
--- Which commands stand on a page without characters.
-use Rattle.std.specs.Prelude.{ℕ, List, [], ◌∷◌, length}
+-- Kinds of commands.
+use Rattle.std.specs.Prelude.{ℕ, length}
 use Rattle.dvi_ops.specs.Command.{Command}
-use Rattle.dvi_ops.specs.Command.Command.{Set, Put, Fnt, Bop, Eop, Pre, Post, PostPost, Xxx, Right, W0, W, X0, X, Down, Y0, Y, Z0, Z}
-use Rattle.dvi_ops.specs.Placed.{Placed}
+use Rattle.dvi_ops.specs.Command.Command.{Set, Put, Fnt, Push, Pop, Bop, Eop, Pre, Post, PostPost, Xxx, Right, W0, W, X0, X, Down, Y0, Y, Z0, Z}
 
--- A command that may stand on a page, and neither sets a character nor selects a font.
-abbrev pub IsBare : Command → Type 0
-IsBare (Set code) = ⊥
-IsBare (Put code) = ⊥
-IsBare (Fnt k) = ⊥
-IsBare (Bop counts back) = ⊥
-IsBare Eop = ⊥
-IsBare (Pre head) = ⊥
-IsBare (Post tail) = ⊥
-IsBare (PostPost back id) = ⊥
-IsBare _ = Unit {0}
-
--- all commands of a page without characters
-abbrev pub AllBare : List Placed → Type 0
-AllBare [] = Unit {0}
-AllBare (c ∷ cs) = IsBare c.command × AllBare cs
+-- a command that is neither push nor pop, selects no font and sets no character
+abbrev pub IsPlain : Command → Type 0
+IsPlain (Set code) = ⊥
+IsPlain (Put code) = ⊥
+IsPlain (Fnt k) = ⊥
+IsPlain Push = ⊥
+IsPlain Pop = ⊥
+IsPlain (Bop counts back) = ⊥
+IsPlain Eop = ⊥
+IsPlain (Pre head) = ⊥
+IsPlain (Post tail) = ⊥
+IsPlain (PostPost back id) = ⊥
+IsPlain _ = Unit {0}
 
 -- how many bytes a special has, and 0 for each other command
 abbrev pub special_size : Command → ℕ

@@ -1,8 +1,8 @@
 -- What a walk gives to a canvas.
-use Rattle.std.specs.Prelude.{◌≡◌, pos, ◌≤ℤ◌, List, ◌∷◌, ◌++◌, Option, Some, None}
+use Rattle.std.specs.Prelude.{◌≡◌, ℕ, ℤ, pos, ◌≤ℤ◌, List, [], ◌∷◌, ◌++◌, Option, Some, None}
 use Rattle.std.specs.List.{Contains}
 use Rattle.positions.specs.Place.{Place}
-use Rattle.positions.specs.Mark.{Mark, IsModerate}
+use Rattle.positions.specs.Mark.{Glyph, Mark, IsModerate}
 use Rattle.positions.specs.Mark.Mark.{OfGlyph, OfRule, OfSpecial}
 use Rattle.vf_expand.specs.Grid.{State}
 use Rattle.vf_expand.specs.Marks.{Outcome}
@@ -12,12 +12,25 @@ use Rattle.vf_expand.specs.declared.fault.WalkFault.TheVariants as fault
 use Rattle.vf_expand.specs.declared.fault.Halt.{Halt}
 use Rattle.vf_expand.specs.declared.fault.Halt.TheVariants as halt
 
--- A mark that a page without characters may have: a rule or a special, with numbers that are not too large. A rule comes only where
--- it is painted, so it has a column and a row at least.
-abbrev pub MayCome : Mark → Type 0
-MayCome (OfGlyph glyph) = ⊥
-MayCome (OfRule rule) = IsModerate (OfRule rule) × (pos 1 ≤ℤ rule.columns) × (pos 1 ≤ℤ rule.rows)
-MayCome (OfSpecial special) = IsModerate (OfSpecial special)
+-- A mark that a frame may have: its numbers are not too large, a rule comes only where it is painted, so it has a column and a row at
+-- least, and a glyph is one that is painted.
+abbrev pub MayCome : (Glyph → Type 0) → Mark → Type 0
+MayCome paints (OfGlyph glyph) = IsModerate (OfGlyph glyph) × paints glyph
+MayCome paints (OfRule rule) = IsModerate (OfRule rule) × (pos 1 ≤ℤ rule.columns) × (pos 1 ≤ℤ rule.rows)
+MayCome paints (OfSpecial special) = IsModerate (OfSpecial special)
+
+-- Each of the marks may come.
+abbrev pub AllCome : (Glyph → Type 0) → List Mark → Type 0
+AllCome paints [] = Unit {0}
+AllCome paints (m ∷ ms) = MayCome paints m × AllCome paints ms
+
+-- From the earlier canvas to the later one these marks were taken, and each of them may come.
+abbrev pub Took : {C : Type 0} → (Glyph → Type 0) → (C → C → List Mark → Type 0) → C → C → List Mark → Type 0
+Took paints takes old new ms = takes old new ms × AllCome paints ms
+
+-- no glyph is painted
+abbrev pub Nothing : Glyph → Type 0
+Nothing glyph = ⊥
 
 -- the mark is one of these, where these are defined
 abbrev pub IsAmong : Option (List Mark) → Mark → Type 0
@@ -25,8 +38,8 @@ IsAmong None m = Unit {0}
 IsAmong (Some ms) m = Contains ms m
 
 -- The canvas can take what comes: each of these marks, where they are defined, and else each mark that may come at all.
-abbrev pub CanTake : {C : Type 0} → (C → Mark → Type 0) → C → Option (List Mark) → Type 0
-CanTake can canvas o = (m : Mark) → MayCome m → IsAmong o m → can canvas m
+abbrev pub CanTake : {C : Type 0} → (C → Mark → Type 0) → (Glyph → Type 0) → C → Option (List Mark) → Type 0
+CanTake can paints c o = (m : Mark) → MayCome paints m → IsAmong o m → can c m
 
 -- exactly the marks of a page were taken
 abbrev pub TookPage : {C : Type 0} → (C → C → List Mark → Type 0) → C → C → Outcome → Type 0
@@ -58,17 +71,20 @@ Stops takes refuses old new o (fault.StackUnder spot) = (o ≡ None) × TookSome
 Stops takes refuses old new o (fault.StackLeft spot) = (o ≡ None) × TookSome takes old new
 Stops takes refuses old new o (fault.StackDeep spot) = TookSome takes old new
 Stops takes refuses old new o (fault.Overflow spot) = (o ≡ None) × TookSome takes old new
+Stops takes refuses old new o (fault.NestDeep font code) = (o ≡ None) × TookSome takes old new
+Stops takes refuses old new o fault.TooManySteps = TookSome takes old new
 Stops takes refuses old new o (fault.Canvas f) = RefusesNext refuses old new f o
 
--- What one command that stopped a walk has done of its marks: nothing, where the canvas did not refuse one of them.
-abbrev pub StopsTurn : {C F : Type 0} → (C → C → List Mark → Mark → F → Type 0) → C → C → Option (List Mark) → WalkFault F → Type 0
-StopsTurn refuses old new o (fault.StackUnder spot) = (o ≡ None) × (new ≡ old)
-StopsTurn refuses old new o (fault.StackLeft spot) = (o ≡ None) × (new ≡ old)
-StopsTurn refuses old new o (fault.StackDeep spot) = new ≡ old
-StopsTurn refuses old new o (fault.Overflow spot) = (o ≡ None) × (new ≡ old)
-StopsTurn refuses old new o (fault.Canvas f) = RefusesNext refuses old new f o
+-- the marks of a character were taken, and this is its width
+abbrev pub TookChar : {C : Type 0} → (C → C → List Mark → Type 0) → C → C → ℤ → Option (List Mark × ℤ) → Type 0
+TookChar takes old new width None = ⊥
+TookChar takes old new width (Some r) = takes old new r.0 × (r.1 ≡ width)
 
--- the same of a command that is neither push nor pop
+abbrev pub char_marks : Option (List Mark × ℤ) → Option (List Mark)
+char_marks None = None
+char_marks (Some r) = Some r.0
+
+-- What a command that is neither push nor pop, and sets no character, and that is not done, has done of its marks.
 abbrev pub Halts : {C F : Type 0} → (C → C → List Mark → Mark → F → Type 0) → C → C → Option (List Mark) → Halt F → Type 0
 Halts refuses old new o halt.Passed = (o ≡ None) × (new ≡ old)
 Halts refuses old new o (halt.Canvas f) = RefusesNext refuses old new f o

@@ -1,19 +1,22 @@
 //! What turns units into pixels.
 ghost use Rattle.std.specs.Prelude.{◌≡◌, ◌<◌, ◌^◌, ◌+ℤ◌, pos, ◌<ℤ◌, OnOk, OnErr, Some, None, unsigned_abs};
-ghost use Rattle.positions.specs.Drift.{IsDrift};
-ghost use Rattle.positions.specs.MarkOf.{rule_of};
-ghost use Rattle.vf_expand.specs.Marks.{right_by, down_by, past_rule, rule_at};
-ghost use Rattle.vf_expand.specs.Takes.{MayCome};
+ghost use Rattle.positions.specs.Drift.{IsDrift, IsSpace};
+ghost use Rattle.positions.specs.MarkOf.{rule_of, glyph_of};
+ghost use Rattle.vf_expand.specs.Marks.{right_by, down_by, past_rule, past_char, rule_at};
+ghost use Rattle.positions.specs.Mark.{IsModerate};
+ghost use Rattle.vf_expand.specs.Pages.{glyph_at};
+ghost use Rattle.vf_expand.specs.Takes.{MayCome, Nothing};
 ghost use Rattle.vf_expand.specs.Causes.{IsLarge};
 
-use dv_base::Conv;
-use positions::{Passed, Pos, RuleMark};
+use dv_base::{Conv, FontId};
+use positions::{GlyphMark, Passed, Pos, RuleMark};
 use std::marker::Model;
 
-/// A conversion to pixels, and how many pixels a place may drift from the exact one.
+/// Conversions to pixels across and down, and how many pixels a place may drift from the exact one.
 #[derive(Clone, Copy, Debug, PartialEq, Eq, Drop)]
 pub struct Grid {
-    conv: Conv,
+    across: Conv,
+    down: Conv,
     drift: i64,
 }
 
@@ -23,39 +26,45 @@ impl Model for Grid {
 
     ghost Value = { Grid };
 
-    ghost view = { λ g. record { pixels = g.conv; drift = g.drift } };
+    ghost view = { λ g. record { across = g.across; down = g.down; drift = g.drift } };
 
     ghost invariant = { λ g. IsDrift g.drift };
 
-    ghost inverse = { λ g. record { conv = g.pixels; drift = g.drift } };
+    ghost inverse = { λ g. record { across = g.across; down = g.down; drift = g.drift } };
 }
 
 impl Grid {
-    pub fn new(conv: Conv, drift: i64) -> Grid
+    pub fn new(across: Conv, down: Conv, drift: i64) -> Grid
         requires { IsDrift drift }
-        ensures { result ≡ record { pixels = conv; drift = drift } }
+        ensures { result ≡ record { across = across; down = down; drift = drift } }
     {
-        Grid { conv, drift }
+        Grid {
+            across,
+            down,
+            drift,
+        }
     }
 
-    /// Moves right by `q`.
-    pub fn right(&self, pos: &mut Pos, q: i64) -> Result<(), Passed>
-        requires { unsigned_abs q < 2 ^ 39 }
-        ensures ok { OnOk result (right_by self.now q pos.old ≡ Some pos.new) }
-        ensures none { OnErr result (right_by self.now q pos.old ≡ None) }
+    /// Moves right by `q`, where the selected font has this space.
+    pub fn right(&self, space: i64, pos: &mut Pos, q: i64) -> Result<(), Passed>
+        requires space { IsSpace space }
+        requires amount { unsigned_abs q < 2 ^ 39 }
+        ensures ok { OnOk result (right_by self.now space q pos.old ≡ Some pos.new) }
+        ensures none { OnErr result (right_by self.now space q pos.old ≡ None) }
         ensures large { OnErr result (IsLarge (pos.old.h +ℤ q)) }
     {
-        pos.right(&self.conv, self.drift, 0, q)
+        pos.right(&self.across, self.drift, space, q)
     }
 
-    /// Moves down by `q`.
-    pub fn down(&self, pos: &mut Pos, q: i64) -> Result<(), Passed>
-        requires { unsigned_abs q < 2 ^ 39 }
-        ensures ok { OnOk result (down_by self.now q pos.old ≡ Some pos.new) }
-        ensures none { OnErr result (down_by self.now q pos.old ≡ None) }
+    /// Moves down by `q`, where the selected font has this space.
+    pub fn down(&self, space: i64, pos: &mut Pos, q: i64) -> Result<(), Passed>
+        requires space { IsSpace space }
+        requires amount { unsigned_abs q < 2 ^ 39 }
+        ensures ok { OnOk result (down_by self.now space q pos.old ≡ Some pos.new) }
+        ensures none { OnErr result (down_by self.now space q pos.old ≡ None) }
         ensures large { OnErr result (IsLarge (pos.old.v +ℤ q)) }
     {
-        pos.down(&self.conv, self.drift, 0, q)
+        pos.down(&self.down, self.drift, space, q)
     }
 
     /// Moves right past a rule of width `b`.
@@ -65,8 +74,37 @@ impl Grid {
         ensures none { OnErr result (past_rule self.now b pos.old ≡ None) }
         ensures large { OnErr result (IsLarge (pos.old.h +ℤ b)) }
     {
-        let pixels = self.conv.ceil(b);
-        pos.advance(&self.conv, self.drift, b, pixels)
+        let pixels = self.across.ceil(b);
+        pos.advance(&self.across, self.drift, b, pixels)
+    }
+
+    /// Moves right past a character of this width.
+    pub fn past_char(&self, pos: &mut Pos, width: i64) -> Result<(), Passed>
+        requires { unsigned_abs width < 2 ^ 32 }
+        ensures ok { OnOk result (past_char self.now width pos.old ≡ Some pos.new) }
+        ensures none { OnErr result (past_char self.now width pos.old ≡ None) }
+        ensures large { OnErr result (IsLarge (pos.old.h +ℤ width)) }
+    {
+        let pixels = self.across.round(width);
+        pos.advance(&self.across, self.drift, width, pixels)
+    }
+
+    /// The glyph of a character at a place.
+    pub fn glyph(&self, font: FontId, code: u8, here: &Pos, width: i64) -> GlyphMark
+        requires { unsigned_abs width < 2 ^ 32 }
+        ensures mark { glyph_of result ≡ glyph_at self.now font code here.now width }
+        ensures fit { IsModerate (glyph_of result) }
+    {
+        GlyphMark {
+            font,
+            code,
+            x: here.hh,
+            y: here.vv,
+            h: here.h,
+            v: here.v,
+            width,
+            pixels: self.across.round(width),
+        }
     }
 
     /// The rule of height `a` and width `b` at a place, both above 0.
@@ -76,13 +114,13 @@ impl Grid {
         requires a { unsigned_abs a < 2 ^ 31 }
         requires b { unsigned_abs b < 2 ^ 31 }
         ensures mark { rule_of result ≡ rule_at self.now here.now a b }
-        ensures fit { MayCome (rule_of result) }
+        ensures fit { MayCome Nothing (rule_of result) }
     {
         RuleMark {
             x: here.hh,
             y: here.vv,
-            w: self.conv.ceil(b),
-            rows: self.conv.ceil(a),
+            w: self.across.ceil(b),
+            rows: self.down.ceil(a),
             h: here.h,
             v: here.v,
             a,

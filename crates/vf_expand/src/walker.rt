@@ -1,131 +1,123 @@
-//! The walk over a page's bytes.
-ghost use Rattle.std.specs.Prelude.{◌≡◌, ◌+◌, ◌<◌, ◌≤◌, ◌^◌, List, [], length, vec_capacity, OnOk, IfOk, IfErr, None};
+//! Walks over the pages of a document.
+ghost use Rattle.std.specs.Prelude.{◌≡◌, ◌+◌, ◌<◌, ◌≤◌, ◌^◌, length, OnOk, IfOk, IfErr};
 ghost use Rattle.positions.specs.Conditions.{SameCondition};
 ghost use Rattle.positions.specs.Drift.{IsDrift};
-ghost use Rattle.dvi_ops.specs.Placed.{Placed, Lexes};
-ghost use Rattle.vf_expand.specs.Commands.{AllBare};
-ghost use Rattle.vf_expand.specs.Marks.{page_marks, marks_alone};
+ghost use Rattle.dvi_doc.specs.Document.{PageOf};
+ghost use Rattle.dvi_doc.specs.View.{IsRead};
+ghost use Rattle.font_set.specs.Frames.{acts_of};
+ghost use Rattle.font_set.specs.Search.{page_of};
+ghost use Rattle.font_set.specs.Covers.{Covers};
+ghost use Rattle.vf_expand.specs.Painted.{IsPainted, AreComing};
+ghost use Rattle.vf_expand.specs.Marks.{marks_alone};
 ghost use Rattle.vf_expand.specs.Takes.{CanTake, TookPage, Stops};
-ghost use Rattle.vf_expand.specs.Causes.{IsCause};
-ghost use Rattle.vf_expand.specs.Shallow.{IsShallow};
+ghost use Rattle.vf_expand.specs.Causes.{IsMany};
+ghost use Rattle.vf_expand.specs.Page.{IsPage, page_marks, page_acts, page_count, IsPageCause, IsShallowPage};
 
 use crate::fault::WalkFault;
 use crate::grid::Grid;
-use crate::turn::{MOST_OPEN, turn};
-use dv_base::{Conv, Spot};
-use dvi_ops::{is_nop, next_cmd, one_spelling};
+use crate::home::{Frame, Home};
+use crate::run::Run;
+use dv_base::Conv;
+use dvi_doc::{Doc, one_document};
+use dvi_ops::one_reading;
+use font_set::Fonts;
 use positions::{Canvas, Pos};
 use std::alloc::{AllocError, Global};
 use std::marker::Model;
 
+/// How many packets may be nested.
+const MOST_NESTED: u32 = 16;
+
 /// Walks over pages, one after another, and keeps the places of the open pushes for it.
 ///
-/// What contracts see of a walker is what it was made with: how many pixels one unit is, and the drift limit.
+/// What contracts see of a walker is what it was made with, which is how many pixels one unit is across and down and the drift limit,
+/// and how many commands it has met since it was made or reset.
 #[derive(Drop)]
 pub struct Walker {
     grid: Grid,
-    saved: Vec<Pos>,
+    run: Run,
 }
 
 impl Model for Walker {
-    ghost use Rattle.std.specs.Prelude.{◌≤◌, vec_capacity};
-    ghost use Rattle.vf_expand.specs.Grid.{Grid};
+    ghost use Rattle.vf_expand.specs.Page.{Walk};
 
-    ghost Value = { Grid };
+    ghost Value = { Walk };
 
-    ghost view = { λ w. w.grid };
-
-    ghost invariant = { λ w. 1000 ≤ vec_capacity w.saved };
+    ghost view = { λ w. record { grid = w.grid; steps = w.run.steps } };
 }
 
 impl Walker {
-    /// A walker with room for all pushes that may be open; `drift` is how many pixels a place may drift from the exact one.
-    pub fn new(alloc: Global, conv: Conv, drift: i64) -> Result<Walker, AllocError>
+    /// A walker with room for all pushes that may be open. `across` and `down` turn units into pixels, and `drift` is how many pixels
+    /// a place may drift from the exact one.
+    pub fn new(alloc: Global, across: Conv, down: Conv, drift: i64) -> Result<Walker, AllocError>
         requires { IsDrift drift }
-        ensures { IfOk result (λ walker. walker ≡ record { pixels = conv; drift = drift }) }
+        ensures { IfOk result (λ walker. walker ≡ record { grid = record { across = across; down = down; drift = drift }; steps = 0 }) }
     {
-        let saved = Vec::with_capacity(alloc, MOST_OPEN)?;
+        let run = Run::new(alloc)?;
         Ok(Walker {
-            grid: Grid::new(conv, drift),
-            saved,
+            grid: Grid::new(across, down, drift),
+            run,
         })
     }
 
-    /// Gives the marks of a page without characters to the canvas, in order.
+    /// How many commands were met since the walker was made or reset; at most 50,000,000.
+    pub fn steps(&self) -> u64
+        ensures value { result ≡ self.now.steps }
+        ensures few { result ≤ 50000000 }
+    {
+        self.run.steps
+    }
+
+    /// Counts commands from 0 again.
+    pub fn reset(&mut self)
+        ensures { self.new ≡ record { grid = self.old.grid; steps = 0 } }
+    {
+        self.run.steps = 0;
+    }
+
+    /// Gives the marks of a page to the canvas, in order, and counts its commands, those of packets with them.
     ///
-    /// `body` are the bytes between the page's bop and its eop, and `first` is the place of the first of them in the file. They have
-    /// to be whole commands that may stand on a page, of which none sets a character or selects a font. After a fault of the canvas
-    /// it has taken a front of the page's marks and refused the next one; after any other fault it has taken some marks. A page that
-    /// one walk has come through stops no later walk by a fault of its own: only another canvas can still refuse its marks.
-    pub fn rules<C: Canvas>(
+    /// `fonts` has to cover the page. The canvas has to take each mark of the page, or, where these are undefined, each that may come at
+    /// all. After a fault of the canvas it has taken a front of the page's marks and refused the next one; after any other fault it has
+    /// taken some marks. A page that one walk has come through stops no later walk from as many commands by a fault of its own: only
+    /// another canvas can still refuse its marks. No memory is taken.
+    pub fn page<C: Canvas>(
         &mut self,
-        body: &[u8],
-        first: u32,
+        doc: &Doc<'_>,
+        page: usize,
+        fonts: &Fonts,
         canvas: &mut C,
     ) -> Result<(), WalkFault<C::Fault>>
-        requires short { first + length body.now < 2 ^ 31 }
-        requires lexed { (cs : List Placed) × Lexes first body.now cs × AllBare cs }
-        requires can { (cs : List Placed) → Lexes first body.now cs → CanTake C.can canvas.old (marks_alone (page_marks self.old cs)) }
-        ensures ok { (cs : List Placed) → Lexes first body.now cs → OnOk result (TookPage C.takes canvas.old canvas.new (page_marks self.old cs)) }
-        ensures stops { (cs : List Placed) → Lexes first body.now cs → IfErr result (Stops C.takes C.refuses canvas.old canvas.new (marks_alone (page_marks self.old cs))) }
-        ensures cause { (cs : List Placed) → Lexes first body.now cs → IfErr result (IsCause self.old cs (first + length body.now)) }
-        ensures shallow { (cs : List Placed) → Lexes first body.now cs → OnOk result (IsShallow self.old cs) }
+        requires read { IsRead doc.now }
+        requires short { length doc.now.bytes < 2 ^ 31 }
+        requires page { page < length doc.now.pages }
+        requires covers { Covers fonts.now (acts_of (page_of doc.now page)) }
+        requires can { (p : PageOf) → IsPage doc.now page p → CanTake C.can (IsPainted self.old.grid fonts.now (page_acts doc.now.fonts p.commands)) canvas.old (marks_alone (page_marks self.old.grid fonts.now doc.now.fonts p.commands)) }
+        ensures ok { (p : PageOf) → IsPage doc.now page p → OnOk result (TookPage C.takes canvas.old canvas.new (page_marks self.old.grid fonts.now doc.now.fonts p.commands)) }
+        ensures came { (p : PageOf) → IsPage doc.now page p → OnOk result (AreComing self.old.grid fonts.now (page_marks self.old.grid fonts.now doc.now.fonts p.commands)) }
+        ensures stops { (p : PageOf) → IsPage doc.now page p → IfErr result (Stops C.takes C.refuses canvas.old canvas.new (marks_alone (page_marks self.old.grid fonts.now doc.now.fonts p.commands))) }
+        ensures cause { (p : PageOf) → IsPage doc.now page p → IfErr result (IsPageCause self.old.grid fonts.now doc.now.fonts p) }
+        ensures steps { (p : PageOf) → IsPage doc.now page p → OnOk result (self.new.steps ≡ self.old.steps + page_count fonts.now doc.now.fonts p.commands) }
+        ensures many { (p : PageOf) → IsPage doc.now page p → IfErr result (IsMany (self.old.steps + page_count fonts.now doc.now.fonts p.commands)) }
+        ensures shallow { (p : PageOf) → IsPage doc.now page p → OnOk result (IsShallowPage self.old.grid fonts.now doc.now.fonts p.commands) }
         ensures same { OnOk result (SameCondition C.can canvas.old canvas.new) }
-        ensures kept { self.new ≡ self.old }
+        ensures kept { self.new.grid ≡ self.old.grid }
     {
-        self.saved.clear();
-        walk(&self.grid, &mut self.saved, body, first, canvas)
-    }
-}
-
-/// Walks over a page with no push open before it.
-fn walk<C: Canvas>(
-    grid: &Grid,
-    saved: &mut Vec<Pos>,
-    body: &[u8],
-    first: u32,
-    canvas: &mut C,
-) -> Result<(), WalkFault<C::Fault>>
-    requires room { 1000 ≤ vec_capacity saved.old }
-    requires empty { saved.old.items ≡ [] }
-    requires short { first + length body.now < 2 ^ 31 }
-    requires lexed { (cs : List Placed) × Lexes first body.now cs × AllBare cs }
-    requires can { (cs : List Placed) → Lexes first body.now cs → CanTake C.can canvas.old (marks_alone (page_marks grid.now cs)) }
-    ensures ok { (cs : List Placed) → Lexes first body.now cs → OnOk result (TookPage C.takes canvas.old canvas.new (page_marks grid.now cs)) }
-    ensures stops { (cs : List Placed) → Lexes first body.now cs → IfErr result (Stops C.takes C.refuses canvas.old canvas.new (marks_alone (page_marks grid.now cs))) }
-    ensures cause { (cs : List Placed) → Lexes first body.now cs → IfErr result (IsCause grid.now cs (first + length body.now)) }
-    ensures shallow { (cs : List Placed) → Lexes first body.now cs → OnOk result (IsShallow grid.now cs) }
-    ensures same { OnOk result (SameCondition C.can canvas.old canvas.new) }
-    ensures room { 1000 ≤ vec_capacity saved.new }
-{
-    one_spelling();
-    let mut pos = Pos::origin();
-    let mut at = 0;
-    while at < body.len() {
-        if is_nop(body, at) {
-            at += 1;
-            continue;
-        }
-        match next_cmd(body, at) {
-            Ok((cmd, end)) => {
-                let place = first + at as u32;
-                at = end;
-                turn(
-                    grid,
-                    saved,
-                    &cmd,
-                    Spot::Page { at: place },
-                    &mut pos,
-                    canvas,
-                )?;
-            }
-            Err(_) => unreachable!(),
-        }
-    }
-    if saved.is_empty() {
-        Ok(())
-    } else {
-        let eop = first + body.len() as u32;
-        Err(WalkFault::StackLeft(Spot::Page { at: eop }))
+        one_document();
+        one_reading();
+        let found = &doc.pages()[page];
+        let frame = Frame {
+            grid: self.grid,
+            fonts,
+            home: Home::Page {
+                doc,
+                first: found.first,
+            },
+            nest: MOST_NESTED,
+            base: 0,
+        };
+        self.run.saved.clear();
+        self.run
+            .frame(&frame, doc.body(page), Pos::origin(), canvas)
     }
 }

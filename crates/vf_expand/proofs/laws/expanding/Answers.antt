@@ -1,0 +1,5 @@
+use Rattle.vf_expand.proofs.Expansion.{expanding}
+use Rattle.vf_expand.proofs.laws.expanding.Goals as goal
+
+pub returns : goal.returns
+returns c = expanding

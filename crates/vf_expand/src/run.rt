@@ -1,0 +1,239 @@
+//! The walk over a page's bytes, through the packets that it runs.
+ghost use Rattle.std.specs.Prelude.{◌≡◌, ◌+◌, ◌<◌, ◌≤◌, ◌^◌, pos, List, [], ◌∷◌, Option, length, take, vec_len, vec_capacity, OnOk, IfOk, IfErr, Some, None, unsigned_abs};
+ghost use Rattle.positions.specs.Conditions.{SameCondition};
+ghost use Rattle.dvi_ops.specs.Placed.{Placed, Lexes};
+ghost use Rattle.dvi_ops.specs.View.{view};
+ghost use Rattle.font_set.specs.Key.{Key};
+ghost use Rattle.font_set.specs.Programs.{id_of, select};
+ghost use Rattle.font_set.specs.Frames.{char_act};
+ghost use Rattle.font_set.specs.Covers.{Covers};
+ghost use Rattle.font_set.specs.Count.{weight, font_behind, runs};
+ghost use Rattle.dvi_doc.specs.Grammar.{IsInner, AllInner};
+ghost use Rattle.vf_expand.specs.Commands.{special_size};
+ghost use Rattle.vf_expand.specs.Pages.{chars};
+ghost use Rattle.vf_expand.specs.Marks.{marks_alone};
+ghost use Rattle.vf_expand.specs.Painted.{HasGlyph};
+ghost use Rattle.vf_expand.specs.Turn.{turned, turn_marks, open_at};
+ghost use Rattle.vf_expand.specs.Takes.{Took, TookPage, TookChar, FollowsTurn, Stops, char_marks};
+ghost use Rattle.vf_expand.specs.Homes.{first_of, spot_of, scope_in, program_in, meaning_in, marks_in, count_in, IsGiven, IsFont, IsReady, IsTurnReady, IsCharReady};
+ghost use Rattle.vf_expand.specs.Causes.{IsCause, IsTurnCause, IsMany, inside};
+ghost use Rattle.vf_expand.specs.Shallow.{FindsRoom, PacketFinds, IsShallow};
+
+use crate::fault::{Halt, WalkFault};
+use crate::home::{Frame, Home, inner};
+use crate::paint::put_glyph;
+use crate::plain::plain;
+use dv_base::{FontId, Spot};
+use dvi_ops::{Cmd, next_cmd, one_reading, one_spelling};
+use positions::{Canvas, Passed, Pos};
+use std::alloc::{AllocError, Global};
+
+/// How many pushes may be open.
+pub const MOST_OPEN: usize = 1_000;
+
+/// How many commands may be met.
+const MOST_STEPS: u64 = 50_000_000;
+
+/// The places of the open pushes of all frames, and how many commands were met.
+#[derive(Drop)]
+pub struct Run {
+    pub saved: Vec<Pos>,
+    pub steps: u64,
+    ghost room: { 1000 ≤ vec_capacity saved },
+    ghost most: { vec_len saved ≤ 1000 },
+    ghost few: { steps ≤ 50000000 },
+}
+
+/// The font and the code of a character that is covered.
+fn character(frame: &Frame<'_>, font: Option<FontId>, z: i64) -> (FontId, u8)
+    requires { (sel : Option Key) × (id_of frame.now.fonts.now sel ≡ font) × Covers frame.now.fonts.now (char_act sel z ∷ []) }
+    ensures font { font ≡ Some result.0 }
+    ensures code { z ≡ pos result.1 }
+{
+    match (font, u8::try_from(z)) {
+        (Some(id), Ok(code)) => (id, code),
+        _ => unreachable!(),
+    }
+}
+
+impl Run {
+    /// With room for all pushes that may be open.
+    pub fn new(alloc: Global) -> Result<Run, AllocError>
+        ensures { IfOk result (λ run. (run.saved.items ≡ []) × (run.steps ≡ 0)) }
+    {
+        let saved = Vec::with_capacity(alloc, MOST_OPEN)?;
+        Ok(Run { saved, steps: 0 })
+    }
+
+    /// Walks over a frame that begins at a place.
+    #[cycle(frames)]
+    pub fn frame<C: Canvas>(
+        &mut self,
+        frame: &Frame<'_>,
+        bytes: &[u8],
+        start: Pos,
+        canvas: &mut C,
+    ) -> Result<(), WalkFault<C::Fault>>
+        requires given { IsGiven frame.now.fonts.now frame.now.home }
+        requires base { frame.now.base ≡ vec_len self.old.saved }
+        requires short { first_of frame.now.home + length bytes.now < 2 ^ 31 }
+        requires ready { (cs : List Placed) × Lexes (first_of frame.now.home) bytes.now cs × AllInner cs × IsReady C.can frame.now canvas.old cs start }
+        ensures ok { (cs : List Placed) → Lexes (first_of frame.now.home) bytes.now cs → OnOk result (TookPage (Took (HasGlyph frame.now.grid frame.now.fonts.now) C.takes) canvas.old canvas.new (marks_in frame.now cs start)) }
+        ensures stops { (cs : List Placed) → Lexes (first_of frame.now.home) bytes.now cs → IfErr result (Stops C.takes C.refuses canvas.old canvas.new (marks_alone (marks_in frame.now cs start))) }
+        ensures cause { (cs : List Placed) → Lexes (first_of frame.now.home) bytes.now cs → IfErr result (IsCause frame.now.grid frame.now.fonts.now frame.now.nest (program_in frame.now cs) start (λ at. spot_of frame.now.home at) (first_of frame.now.home + length bytes.now) frame.now.base) }
+        ensures steps { (cs : List Placed) → Lexes (first_of frame.now.home) bytes.now cs → OnOk result (self.new.steps ≡ self.old.steps + count_in frame.now cs) }
+        ensures many { (cs : List Placed) → Lexes (first_of frame.now.home) bytes.now cs → IfErr result (IsMany (self.old.steps + count_in frame.now cs)) }
+        ensures room { (cs : List Placed) → Lexes (first_of frame.now.home) bytes.now cs → OnOk result (IsShallow frame.now.grid frame.now.fonts.now frame.now.nest (program_in frame.now cs) start frame.now.base) }
+        ensures stack { OnOk result (self.new.saved.items ≡ self.old.saved.items) }
+        ensures same { OnOk result (SameCondition C.can canvas.old canvas.new) }
+    {
+        one_spelling();
+        let mut pos = start;
+        let mut font = frame.first();
+        let mut at = 0;
+        while at < bytes.len() {
+            match next_cmd(bytes, at) {
+                Ok((cmd, end)) => {
+                    let spot = frame.home.spot(at);
+                    at = end;
+                    self.turn(frame, &cmd, spot, &mut pos, &mut font, canvas)?;
+                }
+                Err(_) => unreachable!(),
+            }
+        }
+        if self.saved.len() == frame.base {
+            Ok(())
+        } else {
+            Err(WalkFault::StackLeft(frame.home.spot(bytes.len())))
+        }
+    }
+
+    /// Does one command; `spot` is where it stands.
+    #[cycle(frames)]
+    fn turn<C: Canvas>(
+        &mut self,
+        frame: &Frame<'_>,
+        cmd: &Cmd<'_>,
+        spot: Spot,
+        pos: &mut Pos,
+        font: &mut Option<FontId>,
+        canvas: &mut C,
+    ) -> Result<(), WalkFault<C::Fault>>
+        requires given { IsGiven frame.now.fonts.now frame.now.home }
+        requires base { frame.now.base ≤ vec_len self.old.saved }
+        requires font { IsFont frame.now.fonts.now font.old }
+        requires inner { IsInner (view cmd.now) }
+        requires short { special_size (view cmd.now) < 2 ^ 31 }
+        requires ready { IsTurnReady C.can frame.now canvas.old (view cmd.now) font.old (turn_marks (turned (meaning_in frame.now) (view cmd.now) (open_at frame.now.base self.old.saved.items) (record { place = pos.old; font = font.old }))) }
+        ensures ok { OnOk result (FollowsTurn (Took (HasGlyph frame.now.grid frame.now.fonts.now) C.takes) canvas.old canvas.new (open_at frame.now.base self.new.saved.items) (record { place = pos.new; font = font.new }) (turned (meaning_in frame.now) (view cmd.now) (open_at frame.now.base self.old.saved.items) (record { place = pos.old; font = font.old }))) }
+        ensures stops { IfErr result (Stops C.takes C.refuses canvas.old canvas.new (turn_marks (turned (meaning_in frame.now) (view cmd.now) (open_at frame.now.base self.old.saved.items) (record { place = pos.old; font = font.old })))) }
+        ensures cause { IfErr result (IsTurnCause (meaning_in frame.now) spot frame.now.base (inside frame.now.grid frame.now.fonts.now frame.now.nest (frame.now.base + length (open_at frame.now.base self.old.saved.items))) (view cmd.now) (open_at frame.now.base self.old.saved.items) (record { place = pos.old; font = font.old })) }
+        ensures steps { OnOk result (self.new.steps ≡ self.old.steps + weight (runs frame.now.fonts.now frame.now.nest) font.old (view cmd.now)) }
+        ensures many { IfErr result (IsMany (self.old.steps + weight (runs frame.now.fonts.now frame.now.nest) font.old (view cmd.now))) }
+        ensures room { OnOk result (FindsRoom (PacketFinds frame.now.grid frame.now.fonts.now frame.now.nest) frame.now.base (view cmd.now) (open_at frame.now.base self.old.saved.items) (record { place = pos.old; font = font.old })) }
+        ensures below { OnOk result (take frame.now.base self.new.saved.items ≡ take frame.now.base self.old.saved.items) }
+        ensures base { OnOk result (frame.now.base ≤ vec_len self.new.saved) }
+        ensures behind { OnOk result (font.new ≡ font_behind (select frame.now.fonts.now (scope_in frame.now)) font.old (view cmd.now)) }
+        ensures same { OnOk result (SameCondition C.can canvas.old canvas.new) }
+    {
+        if self.steps >= MOST_STEPS {
+            return Err(WalkFault::TooManySteps);
+        }
+        self.steps += 1;
+        match cmd {
+            Cmd::Push => {
+                if self.saved.len() >= MOST_OPEN {
+                    return Err(WalkFault::StackDeep(spot));
+                }
+                match self.saved.push(*pos) {
+                    Ok(()) => Ok(()),
+                    Err(_) => unreachable!(),
+                }
+            }
+            Cmd::Pop => {
+                if self.saved.len() == frame.base {
+                    return Err(WalkFault::StackUnder(spot));
+                }
+                match self.saved.pop() {
+                    Some(old) => {
+                        *pos = old;
+                        Ok(())
+                    }
+                    None => unreachable!(),
+                }
+            }
+            Cmd::Fnt(k) => match frame.select(*k) {
+                Some(id) => {
+                    *font = Some(id);
+                    Ok(())
+                }
+                None => unreachable!(),
+            },
+            Cmd::Set(z) => {
+                let (id, code) = character(frame, *font, *z);
+                let width = self.show(frame, id, code, pos, canvas)?;
+                match frame.grid.past_char(pos, width) {
+                    Ok(()) => Ok(()),
+                    Err(Passed) => Err(WalkFault::Overflow(spot)),
+                }
+            }
+            Cmd::Put(z) => {
+                let (id, code) = character(frame, *font, *z);
+                self.show(frame, id, code, pos, canvas)?;
+                Ok(())
+            }
+            other => match plain(frame, other, pos, font, canvas) {
+                Ok(()) => Ok(()),
+                Err(Halt::Passed) => Err(WalkFault::Overflow(spot)),
+                Err(Halt::Canvas(f)) => Err(WalkFault::Canvas(f)),
+            },
+        }
+    }
+
+    /// Shows a character at a place, and answers its width.
+    #[cycle(frames)]
+    fn show<C: Canvas>(
+        &mut self,
+        frame: &Frame<'_>,
+        id: FontId,
+        code: u8,
+        here: &Pos,
+        canvas: &mut C,
+    ) -> Result<i64, WalkFault<C::Fault>>
+        requires ready { IsCharReady C.can frame.now canvas.old (Some id) (pos code) (char_marks (chars frame.now.grid frame.now.fonts.now frame.now.nest (Some id) (pos code) here.now)) }
+        ensures ok { IfOk result (λ width. TookChar (Took (HasGlyph frame.now.grid frame.now.fonts.now) C.takes) canvas.old canvas.new width (chars frame.now.grid frame.now.fonts.now frame.now.nest (Some id) (pos code) here.now)) }
+        ensures bound { IfOk result (λ width. unsigned_abs width < 2 ^ 32) }
+        ensures stops { IfErr result (Stops C.takes C.refuses canvas.old canvas.new (char_marks (chars frame.now.grid frame.now.fonts.now frame.now.nest (Some id) (pos code) here.now))) }
+        ensures cause { IfErr result (inside frame.now.grid frame.now.fonts.now frame.now.nest (vec_len self.old.saved) (Some id) (pos code) here.now) }
+        ensures steps { OnOk result (self.new.steps ≡ self.old.steps + runs frame.now.fonts.now frame.now.nest (Some id) (pos code)) }
+        ensures many { IfErr result (IsMany (self.old.steps + runs frame.now.fonts.now frame.now.nest (Some id) (pos code))) }
+        ensures room { OnOk result (PacketFinds frame.now.grid frame.now.fonts.now frame.now.nest (vec_len self.old.saved) (Some id) (pos code) here.now) }
+        ensures stack { OnOk result (self.new.saved.items ≡ self.old.saved.items) }
+        ensures same { OnOk result (SameCondition C.can canvas.old canvas.new) }
+    {
+        one_reading();
+        let Some(width) = frame.fonts.width(id, code) else {
+            unreachable!()
+        };
+        match frame.fonts.packet(id, code) {
+            None => match put_glyph(&frame.grid, id, code, here, width, canvas) {
+                Ok(()) => Ok(width),
+                Err(f) => Err(WalkFault::Canvas(f)),
+            },
+            Some(packet) => {
+                if frame.nest == 0 {
+                    return Err(WalkFault::NestDeep(id, code));
+                }
+                let nested = Frame {
+                    grid: frame.grid,
+                    fonts: frame.fonts,
+                    home: Home::Packet { font: id, code },
+                    nest: frame.nest - 1,
+                    base: self.saved.len(),
+                };
+                self.frame(&nested, packet, inner(here), canvas)?;
+                Ok(width)
+            }
+        }
+    }
+}
