@@ -1,81 +1,18 @@
 """Runs the built program on real files in a scratch folder, and compares status, standard error, and what is written."""
 
 import os
-import shutil
-import subprocess
 import sys
-import tempfile
 from fractions import Fraction
 
 import documents as dvi
-
-TOP = os.path.dirname(os.path.dirname(os.path.abspath(__file__)))
-PROGRAM = os.path.join(TOP, "crates", "texdvi", "out", "texdvi")
-with open(os.path.join(TOP, "crates", "texdvi", "stdout"), "rb") as file:
-    STORED = file.read()  # the text of rule.dvi, as the program's stored run has it
-HEAD, TAIL = STORED[: STORED.index(b"bos\n")], STORED[STORED.index(b"%%Trailer") :]
-
-passed, failed = 0, 0
-
-
-def check(name, got, want):
-    global passed, failed
-    if got == want:
-        passed += 1
-    else:
-        failed += 1
-        print(f"FAILED {name}:\n  got  {got!r:.2000}\n  want {want!r:.2000}")
-
-
-class Folder:
-    """A scratch folder with some files, in which the program runs."""
-
-    def __init__(self, **files):
-        self.path = tempfile.mkdtemp(prefix="texdvi-")
-        for name, content in files.items():
-            self.put(name.replace("_", "."), content)
-
-    def __enter__(self):
-        return self
-
-    def __exit__(self, *_):
-        shutil.rmtree(self.path)
-
-    def put(self, name, content):
-        with open(os.path.join(self.path, name), "wb") as file:
-            file.write(content)
-
-    def get(self, name):
-        try:
-            with open(os.path.join(self.path, name), "rb") as file:
-                return file.read()
-        except FileNotFoundError:
-            return None
-
-    def run(self, *words, stdin=b"", stdout=subprocess.PIPE):
-        done = subprocess.run(
-            [PROGRAM, *words], cwd=self.path, input=stdin, stdout=stdout, stderr=subprocess.PIPE, timeout=60
-        )
-        return done.returncode, done.stdout, done.stderr
-
-
-def text(title, pages, dpi=300):
-    """The text of pages, each a pair of a label and the lines between bop and eop."""
-    head = HEAD.replace(b"%%Title: rule.dvi", b"%%Title: " + title).replace(b"%%Pages: 1", b"%%%%Pages: %d" % len(pages))
-    head = head.replace(b"300 300 300 300 TS", b"%d %d %d %d TS" % (dpi, dpi, dpi, dpi))
-    body = b""
-    for place, (label, lines) in enumerate(pages, 1):
-        body += b"%%%%Page: %d %d\nbop\n" % (label, place) + lines + b"eop\n"
-    return head + (b"bos\n" + body + b"eos\n" if pages else b"") + TAIL
-
+import printing
+from running import PROGRAM, STORED, Folder, check, counts, refused_in, text
 
 def refused(name, content, status, message, words=("dvips", "-D", "300", "-o", "out.ps", "in.dvi")):
-    """A run that is refused says its line, begins no output, and leaves an old one as it was."""
-    with Folder(out_ps=b"as it was") as folder:
+    with Folder() as folder:
         if content is not None:
             folder.put("in.dvi", content)
-        check(name, folder.run(*words), (status, b"", b"texdvi: " + message + b"\n"))
-        check(name + ", output", folder.get("out.ps"), b"as it was")
+        refused_in(folder, name, status, message, words)
 
 
 def prints(name, content, pages, dpi=300):
@@ -175,7 +112,6 @@ def inputs():
 def documents():
     rule = dvi.RULE
     changed = lambda at, value: rule[:at] + value + rule[at + len(value) :]
-    refused("a character", dvi.ONE, 1, b"NotBuilt 81")
     refused("an empty file", b"", 1, b"BadDvi NoPreamble")
     refused("a short trailer", rule[:-2], 1, b"BadDvi NoTrailer")
     refused("a den of 0", dvi.document([(1, dvi.RULES)], den=0), 1, b"BadConv 25400000 0 1000 300")
@@ -242,10 +178,10 @@ def main():
     if not os.path.exists(PROGRAM):
         print(f"tests/run: {PROGRAM} is not there; run rt ci first")
         return 1
-    for part in (files_and_streams, long_outputs, lost_outputs, words, inputs, documents, pages, moves):
+    for part in (files_and_streams, long_outputs, lost_outputs, words, inputs, documents, pages, moves) + printing.PARTS:
         part()
-    print(f"{passed} passed, {failed} failed")
-    return 1 if failed else 0
+    print("{passed} passed, {failed} failed".format(**counts))
+    return 1 if counts["failed"] else 0
 
 
 if __name__ == "__main__":
