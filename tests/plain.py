@@ -223,6 +223,10 @@ class Document:
         return found
 
 
+# the first byte of each kind of move, which way it goes, and which amount it keeps: then the first byte moves by what was kept last
+MOVES = [(143, "right", None), (147, "right", "w"), (152, "right", "x"), (157, "down", None), (161, "down", "y"), (166, "down", "z")]
+
+
 class Walk:
     """The commands of a page or packet, one after another."""
 
@@ -268,7 +272,7 @@ class Walk:
         return self.advance(place, font.widths[code], self.pixels(font.widths[code]))
 
     def run(self, data, fonts, key, scale, place):
-        at, stack, w, x, y, z = 0, [], 0, 0, 0, 0
+        at, stack, amounts = 0, [], dict.fromkeys("wxyz", 0)
         font = self.document.font(key) if key else None
         while at < len(data) and data[at] != 140:
             byte = data[at]
@@ -294,25 +298,15 @@ class Walk:
             elif 133 <= byte <= 136:
                 self.character(place, font, operand(133, False))
             elif byte == 141:
-                stack.append((place, w, x, y, z))
+                stack.append((place, dict(amounts)))
             elif byte == 142:
-                place, w, x, y, z = stack.pop()
-            elif 143 <= byte <= 146:
-                place = self.right(place, scale(operand(143)), space)
-            elif 147 <= byte <= 151:
-                w = scale(operand(148)) if byte > 147 else w
-                place = self.right(place, w, space)
-            elif 152 <= byte <= 156:
-                x = scale(operand(153)) if byte > 152 else x
-                place = self.right(place, x, space)
-            elif 157 <= byte <= 160:
-                place = self.down(place, scale(operand(157)), space)
-            elif 161 <= byte <= 165:
-                y = scale(operand(162)) if byte > 161 else y
-                place = self.down(place, y, space)
-            elif 166 <= byte <= 170:
-                z = scale(operand(167)) if byte > 166 else z
-                place = self.down(place, z, space)
+                place, amounts = stack.pop()
+            elif 143 <= byte <= 170:
+                first, way, kept = next(kind for kind in reversed(MOVES) if kind[0] <= byte)
+                q = amounts[kept] if kept and byte == first else scale(operand(first + bool(kept)))
+                if kept:
+                    amounts[kept] = q
+                place = getattr(self, way)(place, q, space)
             elif 171 <= byte <= 234:
                 font = self.document.font(fonts[byte - 171])
             elif 235 <= byte <= 238:
