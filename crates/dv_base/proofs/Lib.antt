@@ -3,3 +3,4 @@ pub mod Conversions
 pub mod Divided
 pub mod Products
 pub mod Taken
+mod Nearness

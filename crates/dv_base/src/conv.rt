@@ -1,6 +1,6 @@
 //! From units of a DVI file to pixels.
-ghost use Rattle.std.specs.Prelude.{◌≡◌, ◌↔◌, ◌*◌, ◌+◌, ◌-◌, ◌/◌, ◌^◌, ◌<◌, ◌≤◌, pos, ◌<ℤ◌, ◌≤ℤ◌, unsigned_abs, IsSome, IfSome, MatchOption};
-ghost use Rattle.dv_base.specs.Rounding.{IsNearest, IsCeiling, IsFine, rounded, ceiling};
+ghost use Rattle.std.specs.Prelude.{◌≡◌, ◌↔◌, ◌*◌, ◌+◌, ◌-◌, ◌/◌, ◌^◌, ◌<◌, ◌≤◌, pos, ◌-ℤ◌, ◌<ℤ◌, ◌≤ℤ◌, unsigned_abs, IsSome, IfSome, IsTrue, MatchOption};
+ghost use Rattle.dv_base.specs.Rounding.{IsNearest, IsCeiling, IsFine, half_up, rounded, ceiling};
 ghost use Rattle.dv_base.specs.Lowest.{gcd};
 ghost use Rattle.dv_base.specs.RoundingLaws.{rounded-nearest};
 ghost use Rattle.dv_base.specs.UnitPixels.{pixels_of_one, unit_length, IsSameNumber, IsUsable};
@@ -68,6 +68,17 @@ fn quotient(above: u128, below: u128) -> u128
     }
 }
 
+/// Whether the whole part of a quotient is from `least` to `most`, by products alone.
+#[inline(always)]
+fn is_between(above: u128, below: u128, least: u64, most: u64) -> bool
+    requires below { below < 2 ^ 62 }
+    requires some { 0 < below }
+    requires most { most < 2 ^ 63 }
+    ensures { IsTrue result ↔ ((least ≤ above / below) × (above / below ≤ most)) }
+{
+    u128::from(least) * below <= above && above < u128::from(most + 1) * below
+}
+
 impl Conv {
     /// The conversion of a document's units; `None` exactly where one of them is below 1, or where a unit is so large that
     /// 2^31 - 1 units are 2^30 pixels or more.
@@ -104,6 +115,48 @@ impl Conv {
         let length = u128::from(x.unsigned_abs());
         let pixels = quotient(2 * length * self.top + self.bottom, 2 * self.bottom) as i64;
         if x < 0 { -pixels } else { pixels }
+    }
+
+    /// Whether `n` pixels are at most `drift` from a length that is not negative, rounded.
+    #[inline(always)]
+    fn is_near_size(&self, length: u64, n: i64, drift: i64) -> bool
+        requires length { length < 2 ^ 40 }
+        requires n { unsigned_abs n < 2 ^ 42 }
+        requires least { pos 0 ≤ℤ drift }
+        requires most { drift ≤ℤ pos 1000 }
+        ensures { IsTrue result ↔ unsigned_abs (n -ℤ pos (half_up self.now length)) ≤ unsigned_abs drift }
+    {
+        let most = n + drift;
+        if most < 0 {
+            return false;
+        }
+        let least = (n - drift).max(0);
+        let above = 2 * u128::from(length) * self.top + self.bottom;
+        is_between(
+            above,
+            2 * self.bottom,
+            least.unsigned_abs(),
+            most.unsigned_abs(),
+        )
+    }
+
+    /// Whether `n` pixels are at most `drift` from the length `x`, rounded to the nearest whole number. It takes products and no
+    /// division, so it is faster than [`Conv::round`].
+    #[inline(always)]
+    pub fn is_near(&self, x: i64, n: i64, drift: i64) -> bool
+        requires x { unsigned_abs x < 2 ^ 40 }
+        requires n { unsigned_abs n < 2 ^ 42 }
+        requires least { pos 0 ≤ℤ drift }
+        requires most { drift ≤ℤ pos 1000 }
+        ensures near { IsTrue result ↔ unsigned_abs (n -ℤ rounded self.now x) ≤ unsigned_abs drift }
+        ensures fine { IsFine self.now }
+    {
+        let _ = &self.top;
+        if x < 0 {
+            self.is_near_size(x.unsigned_abs(), -n, drift)
+        } else {
+            self.is_near_size(x.unsigned_abs(), n, drift)
+        }
     }
 
     /// The least whole number of pixels that is not below the length `x`.

@@ -31,6 +31,18 @@ fn reads_numbers(rt: HostRuntime) {
 }
 
 #[test]
+fn judges_nearness(rt: HostRuntime) {
+    // 327680 units are 20.7555 pixels
+    let conv = Conv::new(&TEX).expect(&rt, "TeX's units");
+    assert!(rt; conv.is_near(327_680, 20, 1));
+    assert!(rt; conv.is_near(327_680, 22, 1));
+    assert!(rt; !conv.is_near(327_680, 23, 1));
+    assert!(rt; !conv.is_near(-327_680, -19, 1));
+    assert!(rt; conv.is_near(-327_680, -22, 1));
+    assert!(rt; !conv.is_near(0, -1, 0));
+}
+
+#[test]
 fn converts_to_pixels(rt: HostRuntime) {
     let conv = Conv::new(&TEX).expect(&rt, "TeX's units");
     // x, nearest, least not below: 327680 units are 20.7555 pixels, 47362 are 2.99999 and 5262 are 0.3333

@@ -62,6 +62,8 @@ fn near(drift: i64, exact: i64, pixels: i64) -> i64
 }
 
 /// The pixels behind a character or a rule: those before it and its `width`, at most `drift` from the exact ones of `place`.
+// Behind almost all characters they are near enough, which is told without a division.
+#[inline(always)]
 fn pixels_behind(conv: &Conv, drift: i64, place: i64, pixels: i64, width: i64) -> i64
     requires drift { IsDrift drift }
     requires place { unsigned_abs place < 2 ^ 31 }
@@ -70,7 +72,12 @@ fn pixels_behind(conv: &Conv, drift: i64, place: i64, pixels: i64, width: i64) -
     ensures value { result ≡ pixels_behind conv.now drift place pixels width }
     ensures bound { unsigned_abs result < 2 ^ 32 }
 {
-    near(drift, conv.round(place), pixels + width)
+    let behind = pixels + width;
+    if conv.is_near(place, behind, drift) {
+        behind
+    } else {
+        near(drift, conv.round(place), behind)
+    }
 }
 
 /// The pixels after a move by `q` to `place`: the exact ones where the move is large.
