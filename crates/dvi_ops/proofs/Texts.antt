@@ -22,11 +22,11 @@ text_of_xxx : (op : ℕ) (xs : List ℕ) → 239 ≤ op → op < 243 → text_le
 unfolding text_len unsigned
 text_of_xxx op xs a b = grind (arith, nat_tests)
 
-text_of_def : (op : ℕ) (xs : List ℕ) → 243 ≤ op → op < 247 → text_len op xs ≡ slice_index xs (op - 242 + 12) + slice_index xs (op - 242 + 13)
+pub text_of_def : (op : ℕ) (xs : List ℕ) → 243 ≤ op → op < 247 → text_len op xs ≡ slice_index xs (op - 242 + 12) + slice_index xs (op - 242 + 13)
 unfolding text_len
 text_of_def op xs a b = grind (arith, nat_tests)
 
-text_of_pre : (op : ℕ) (xs : List ℕ) → 247 ≤ op → op < 248 → text_len op xs ≡ slice_index xs 13
+pub text_of_pre : (op : ℕ) (xs : List ℕ) → 247 ≤ op → op < 248 → text_len op xs ≡ slice_index xs 13
 unfolding text_len
 text_of_pre op xs a b = grind (arith, nat_tests)
 
@@ -34,7 +34,7 @@ len_of_xxx : (op : ℕ) → 239 ≤ op → op < 243 → fixed_len op ≡ op - 23
 unfolding fixed_len
 len_of_xxx op a b = grind (arith, nat_tests)
 
-len_of_def : (op : ℕ) → 243 ≤ op → op < 247 → fixed_len op ≡ op - 242 + 14
+pub len_of_def : (op : ℕ) → 243 ≤ op → op < 247 → fixed_len op ≡ op - 242 + 14
 unfolding fixed_len
 len_of_def op a b = grind (arith, nat_tests)
 
@@ -114,19 +114,19 @@ single bytes at op cmd h e low none m =
     let s = spelled_single bytes at cmd h (omega (arith, e, low)) (ap fixed_len e ∙ none) (m ∙ ap (λ (n : ℕ). meaning n []) (sym e)) in
     (omega arith, s.0, s.1)
 
-set_len : (op : ℕ) → op < 128 → fixed_len op ≡ 0
+pub set_len : (op : ℕ) → op < 128 → fixed_len op ≡ 0
 unfolding fixed_len
 set_len op h = grind (arith, nat_tests)
 
-set_is : (op : ℕ) → op < 128 → Set (pos op) ≡ meaning op []
+pub set_is : (op : ℕ) → op < 128 → Set (pos op) ≡ meaning op []
 unfolding meaning low
 set_is op h = grind (arith, nat_tests)
 
-fnt_len : (op : ℕ) → 171 ≤ op → op < 235 → fixed_len op ≡ 0
+pub fnt_len : (op : ℕ) → 171 ≤ op → op < 235 → fixed_len op ≡ 0
 unfolding fixed_len
 fnt_len op h k = grind (arith, nat_tests)
 
-fnt_is : (op : ℕ) → 171 ≤ op → op < 235 → Fnt (pos (op - 171)) ≡ meaning op []
+pub fnt_is : (op : ℕ) → 171 ≤ op → op < 235 → Fnt (pos (op - 171)) ≡ meaning op []
 unfolding meaning high
 fnt_is op h k = grind (arith, nat_tests)
 

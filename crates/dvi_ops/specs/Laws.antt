@@ -1,7 +1,8 @@
 -- What follows from the table of commands for all spellings.
-use Rattle.std.specs.Prelude.{◌≡◌, ◌↔◌, ℕ, List, ◌++◌, Some}
+use Rattle.std.specs.Prelude.{◌≡◌, ◌↔◌, ℕ, List, ◌++◌, ◌<◌, slice_index, Some}
 use Rattle.dvi_ops.specs.Command.{Command}
 use Rattle.dvi_ops.specs.Spelling.{Spell}
+use Rattle.dvi_ops.specs.Shortest.{shortest_whole, IsShortest, HasRoom, CanBePut}
 use Rattle.dvi_ops.specs.Placed.{Placed, Lexes}
 use Rattle.dvi_ops.specs.Reading.{commands_in}
 
@@ -14,3 +15,11 @@ OneSpelling =
 -- Bytes are spellings of these commands, one after another, exactly where these are the commands in the bytes.
 abbrev pub OneReading : Type 0
 OneReading = (at : ℕ) (bytes : List ℕ) (cs : List Placed) → Lexes at bytes cs ↔ (commands_in at bytes ≡ Some cs)
+
+-- A command whose operands have room has a shortest spelling, which is this one.
+abbrev pub ShortestSpelling : Type 0
+ShortestSpelling = (cmd : Command) → HasRoom cmd → IsShortest cmd (shortest_whole cmd)
+
+-- What bytes spell has room for its operands, and so it can be put.
+abbrev pub SpelledHasRoom : Type 0
+SpelledHasRoom = (cmd : Command) (bytes : List ℕ) → ((i : ℕ) → slice_index bytes i < 256) → Spell cmd bytes → HasRoom cmd × CanBePut cmd

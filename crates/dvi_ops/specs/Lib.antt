@@ -1,5 +1,6 @@
 pub mod Command
 pub mod Spelling
+pub mod Shortest
 pub mod Placed
 pub mod Following
 pub mod Reading

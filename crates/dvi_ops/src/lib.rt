@@ -22,14 +22,16 @@ mod length;
 mod number;
 mod number_index;
 mod plain;
+mod put;
 mod read;
 
 pub use cmd::{Cmd, Def, Head, OpFault, Tail};
 pub use definition::definition_at;
 pub use following::command_at;
-pub use laws::{one_reading, one_spelling};
+pub use laws::{one_reading, one_spelling, shortest_spelling, spelled_has_room};
 pub use number_index::NumberIndex;
 pub use plain::{is_nop, pass};
+pub use put::{CmdBytes, put_cmd};
 pub use read::next_cmd;
 
 #[cfg(test)]

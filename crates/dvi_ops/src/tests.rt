@@ -1,5 +1,8 @@
 //! Spellings and commands by the table of the DVI format, and the faults.
 
+ghost use Rattle.dvi_ops.specs.View.{view};
+ghost use Rattle.dvi_ops.specs.Shortest.{CanBePut};
+
 use super::*;
 use std::test::Fail;
 
@@ -131,6 +134,7 @@ fn long_commands_and_faults(rt: HostRuntime) -> Result<(), Fail> {
     }
     one_spelling();
     one_reading();
+    shortest_spelling();
     Ok(())
 }
 
@@ -174,5 +178,95 @@ fn numbers_of_fonts(rt: HostRuntime) -> Result<(), Fail> {
     }
     let index = NumberIndex::new(vec![in rt.alloc(); (3, 0), (5, 1), (3, 2)]?);
     assert_eq!(rt; index.twice(), Some(3));
+    Ok(())
+}
+
+/// The bytes that are put for a command, and the length of its whole spelling, as a text.
+fn put(rt: &HostRuntime, cmd: &Cmd<'_>) -> Result<String, Fail>
+    requires { CanBePut (view cmd.now) }
+{
+    let mut out = CmdBytes::new();
+    let len = put_cmd(cmd, &mut out);
+    Ok(format!(in rt.alloc(); "{:?} {len}", out.as_slice())?)
+}
+
+#[test]
+fn puts_numbers_in_few_bytes(rt: HostRuntime) -> Result<(), Fail> {
+    assert_eq!(rt; put(&rt, &Cmd::Set(127))?.as_str(), "[127] 1");
+    assert_eq!(rt; put(&rt, &Cmd::Set(128))?.as_str(), "[128, 128] 2");
+    assert_eq!(rt;
+        put(&rt, &Cmd::Set(-1))?.as_str(),
+        "[131, 255, 255, 255, 255] 5"
+    );
+    assert_eq!(rt; put(&rt, &Cmd::Put(65))?.as_str(), "[133, 65] 2");
+    assert_eq!(rt; put(&rt, &Cmd::Fnt(63))?.as_str(), "[234] 1");
+    assert_eq!(rt; put(&rt, &Cmd::Fnt(64))?.as_str(), "[235, 64] 2");
+    assert_eq!(rt; put(&rt, &Cmd::Fnt(65536))?.as_str(), "[237, 1, 0, 0] 4");
+    assert_eq!(rt; put(&rt, &Cmd::Right(-128))?.as_str(), "[143, 128] 2");
+    assert_eq!(rt; put(&rt, &Cmd::W(128))?.as_str(), "[149, 0, 128] 3");
+    assert_eq!(rt; put(&rt, &Cmd::Y(-8388608))?.as_str(), "[164, 128, 0, 0] 4");
+    assert_eq!(rt;
+        put(&rt, &Cmd::Z(8388608))?.as_str(),
+        "[170, 0, 128, 0, 0] 5"
+    );
+    Ok(())
+}
+
+#[test]
+fn puts_long_commands(rt: HostRuntime) -> Result<(), Fail> {
+    let definition = Def {
+        k: 256,
+        checksum: 1,
+        size: 2,
+        design: 3,
+        area: 1,
+        name: &[97, 98, 99],
+    };
+    assert_eq!(rt;
+        put(&rt, &Cmd::FntDef(definition))?.as_str(),
+        "[244, 1, 0, 0, 0, 0, 1, 0, 0, 0, 2, 0, 0, 0, 3, 1, 2, 97, 98, 99] 20"
+    );
+    let head = Head {
+        id: 2,
+        num: 25400000,
+        den: 473628672,
+        mag: 1000,
+        comment: &[33],
+    };
+    assert_eq!(rt;
+        put(&rt, &Cmd::Pre(head))?.as_str(),
+        "[247, 2, 1, 131, 146, 192, 28, 59, 0, 0, 0, 0, 3, 232, 1] 16"
+    );
+    let tail = Tail {
+        back: -1,
+        num: 1,
+        den: 2,
+        mag: 3,
+        tall: 4,
+        wide: 5,
+        depth: 6,
+        pages: 7,
+    };
+    assert_eq!(rt;
+        put(&rt, &Cmd::Post(tail))?.as_str(),
+        "[248, 255, 255, 255, 255, 0, 0, 0, 1, 0, 0, 0, 2, 0, 0, 0, 3, 0, 0, 0, 4, 0, 0, 0, 5, 0, 6, 0, 7] 29"
+    );
+    assert_eq!(rt; put(&rt, &Cmd::Xxx(&[7, 8]))?.as_str(), "[239, 2] 4");
+    assert_eq!(rt;
+        put(&rt, &Cmd::PutRule { a: 5, b: -1 })?.as_str(),
+        "[137, 0, 0, 0, 5, 255, 255, 255, 255] 9"
+    );
+    assert_eq!(rt;
+        put(&rt, &Cmd::PostPost { back: 88, id: 2 })?.as_str(),
+        "[249, 0, 0, 0, 88, 2] 6"
+    );
+    let bop = Cmd::Bop {
+        counts: [1, -1, 0, 0, 0, 0, 0, 0, 0, 9],
+        back: -1,
+    };
+    assert_eq!(rt;
+        put(&rt, &bop)?.as_str(),
+        "[139, 0, 0, 0, 1, 255, 255, 255, 255, 0, 0, 0, 0, 0, 0, 0, 0, 0, 0, 0, 0, 0, 0, 0, 0, 0, 0, 0, 0, 0, 0, 0, 0, 0, 0, 0, 0, 0, 0, 0, 9, 255, 255, 255, 255] 45"
+    );
     Ok(())
 }
