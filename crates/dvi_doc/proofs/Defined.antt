@@ -1,12 +1,12 @@
 -- Definitions by their numbers.
-use Rattle.std.proofs.Common.{◌≡◌, ◌<◌, ◌+◌, ℕ, zero, suc, ℤ, ◌⊎◌, inl, inr, List, [], ◌∷◌, ◌++◌, length, map, take, drop, refl, sym, ap, subst, ◌∙◌, arith, Bool, true, false, slice_index_or, get_or, IsTrue, ◌↔◌, MatchBool}
+use Rattle.std.proofs.Common.{◌≡◌, ◌<◌, ◌+◌, ℕ, zero, suc, ℤ, inl, inr, List, [], ◌∷◌, ◌++◌, length, map, take, drop, refl, sym, ap, subst, ◌∙◌, arith, Bool, true, false, slice_index_or, get_or, IsTrue, ◌↔◌, MatchBool}
 use Rattle.std.specs.List.{All, Contains}
-use Rattle.std.proofs.lemmas.List.{take_more, map-append, length-map, drop_more, take-append-drop}
+use Rattle.std.proofs.lemmas.List.{take_more, map-append, drop_more, take-append-drop}
 use Rattle.std.proofs.lemmas.List.Elements.{All-append, All-cons, All-nil}
 use Rattle.dvi_ops.specs.Command.{Definition}
 use Rattle.dvi_ops.specs.View.{def_view}
 use Rattle.dvi_ops.specs.declared.cmd.Def.{Def}
-use Rattle.dvi_doc.specs.Grammar.{number_of, Defines, DefinesTwice, AreFonts, IsNamed, IsSize, IsSized}
+use Rattle.dvi_doc.specs.Grammar.{Defines, DefinesTwice, AreFonts}
 use Rattle.dvi_doc.specs.Faults.{FontFault}
 use Rattle.dvi_doc.specs.PartFaults.{DefinitionFault}
 use Rattle.dvi_doc.specs.declared.fault.DocFault.{DocFault}

@@ -8,4 +8,6 @@ pub mod Further
 pub mod Gathered
 pub mod Defined
 pub mod Numbering
+pub mod Rising
 pub mod Judged
+pub mod Comments

@@ -1,5 +1,5 @@
 -- Definitions in order, and the index of their numbers.
-use Rattle.std.proofs.Common.{◌≡◌, ◌<◌, ℕ, zero, suc, ℤ, List, [], ◌∷◌, ◌++◌, length, map, get_or, slice_index_or, refl, sym, ap, subst, ◌∙◌, arith}
+use Rattle.std.proofs.Common.{◌≡◌, ◌<◌, ℕ, zero, suc, ℤ, List, [], ◌∷◌, ◌++◌, length, map, get_or, slice_index_or, refl, sym, ap, ◌∙◌, arith}
 use Rattle.std.specs.List.{Contains}
 use Rattle.std.specs.List.Sorted.{IsPermutation}
 use Rattle.std.proofs.lemmas.List.{length-map, map-append}
@@ -14,7 +14,7 @@ use Rattle.dvi_doc.specs.Grammar.{number_of, numbers_of}
 abbrev pub IsIndex : List Def → List (ℤ × ℕ) → Type 0
 IsIndex defs pairs = IsPermutation (numbered 0 (numbers_of (map def_view defs))) pairs
 
-number_at : (defs : List Def) (place : ℕ) (f : Def) (d : ℤ) → place < length defs → slice_index_or (numbers_of (map def_view defs)) place d ≡ (get_or defs place f).k
+pub number_at : (defs : List Def) (place : ℕ) (f : Def) (d : ℤ) → place < length defs → slice_index_or (numbers_of (map def_view defs)) place d ≡ (get_or defs place f).k
 number_at [] place f d h = absurd (omega (arith, h))
 number_at (x ∷ defs) zero f d h = refl
 number_at (x ∷ defs) (suc place) f d h = number_at defs place f d (omega (arith, h))
@@ -27,7 +27,7 @@ place_of defs pairs k place same h =
     let inside : place < length defs = omega (arith, p.0, length-map (map def_view defs) number_of, length-map defs def_view) in
     (inside, λ f. sym (number_at defs place f k inside) ∙ p.1 k)
 
-there : (defs : List Def) (i : ℕ) (f : Def) → i < length defs → f ≡ get_or defs i f → slice_index_or (map def_view defs) i (def_view f) ≡ def_view f
+pub there : (defs : List Def) (i : ℕ) (f : Def) → i < length defs → f ≡ get_or defs i f → slice_index_or (map def_view defs) i (def_view f) ≡ def_view f
 there [] i f l e = absurd (omega (arith, l))
 there (d ∷ defs) zero f l e = ap def_view (sym e)
 there (d ∷ defs) (suc i) f l e = there defs i f (omega (arith, l)) e

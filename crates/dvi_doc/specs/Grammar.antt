@@ -1,5 +1,5 @@
 -- When bytes are a document (DVI format, the order of commands in a file).
-use Rattle.std.specs.Prelude.{◌≡◌, ◌≤◌, ◌%◌, ◌^◌, ◌⊎◌, ℕ, ℤ, pos, negsuc, ◌≤ℤ◌, ◌<ℤ◌, List, [], ◌∷◌, ◌++◌, length, map}
+use Rattle.std.specs.Prelude.{◌≡◌, ◌≤◌, ◌%◌, ◌^◌, ℕ, ℤ, pos, negsuc, ◌≤ℤ◌, ◌<ℤ◌, List, [], ◌∷◌, ◌++◌, length, map}
 use Rattle.std.specs.List.{All, Contains}
 use Rattle.dv_base.specs.FontName.{IsFontName}
 use Rattle.dvi_ops.specs.Command.{Command, Definition, Preamble, Postamble}

@@ -6,3 +6,4 @@ pub mod Faults
 pub mod PartFaults
 pub mod Steps
 pub mod Laws
+pub mod Rising

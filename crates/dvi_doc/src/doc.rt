@@ -29,15 +29,17 @@ pub struct Doc<'a> {
 }
 
 impl<'a> Model for Doc<'a> {
-    ghost use Rattle.dvi_doc.specs.View.{ReadDoc, IsRead, page_view};
+    ghost use Rattle.dvi_doc.specs.Document.{Document};
+    ghost use Rattle.dvi_doc.specs.Grammar.{IsDoc};
+    ghost use Rattle.dvi_doc.specs.View.{ReadDoc, Shows, page_view};
     ghost use Rattle.dvi_ops.specs.View.{head_view, tail_view};
-    ghost use Rattle.std.specs.Prelude.{map};
+    ghost use Rattle.std.specs.Prelude.{◌<◌, length, map};
 
     ghost Value = { ReadDoc };
 
     ghost view = { λ d. record { bytes = d.bytes.now; head = head_view d.head; pages = map page_view d.pages.items; tail = tail_view d.tail; fonts = d.fonts } };
 
-    ghost invariant = { λ d. IsRead (record { bytes = d.bytes.now; head = head_view d.head; pages = map page_view d.pages.items; tail = tail_view d.tail; fonts = d.fonts }) };
+    ghost invariant = { λ d. (doc : Document) × IsDoc d.bytes.now doc × Shows doc (record { bytes = d.bytes.now; head = head_view d.head; pages = map page_view d.pages.items; tail = tail_view d.tail; fonts = d.fonts }) × (length d.head.comment.now < 256) };
 }
 
 impl<'a> Doc<'a> {
@@ -68,7 +70,8 @@ impl<'a> Doc<'a> {
 
     /// What the preamble says.
     pub fn head(&self) -> Head<'a>
-        ensures { head_view result ≡ self.now.head }
+        ensures value { head_view result ≡ self.now.head }
+        ensures short { length result.comment.now < 256 }
     {
         self.head
     }

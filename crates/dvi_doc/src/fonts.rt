@@ -1,5 +1,5 @@
 //! The fonts of a postamble, by number.
-ghost use Rattle.std.specs.Prelude.{◌≡◌, IfOk, IfErr, OnOk, MatchBool, MatchOption, map};
+ghost use Rattle.std.specs.Prelude.{◌≡◌, IfOk, IfErr, OnOk, IsTrue, MatchBool, MatchOption, map};
 ghost use Rattle.std.specs.List.{Contains, All};
 ghost use Rattle.std.specs.List.Sorted.{IsPermutation};
 ghost use Rattle.dvi_ops.specs.View.{def_view};
@@ -7,6 +7,7 @@ ghost use Rattle.dvi_doc.specs.Grammar.{AreFonts, AllAmong, Defines, IsNamed, Is
 ghost use Rattle.dvi_ops.specs.Numbered.{numbered};
 ghost use Rattle.dvi_doc.specs.Faults.{FontFault};
 ghost use Rattle.dvi_doc.specs.PartFaults.{Differs};
+ghost use Rattle.dvi_doc.specs.Rising.{Rise};
 
 use crate::fault::DocFault;
 use crate::font::{check_font, is_same};
@@ -18,7 +19,8 @@ use std::marker::Model;
 #[derive(Drop)]
 pub struct Fonts<'a> {
     fonts: Vec<Def<'a>>,
-    index: NumberIndex,
+    /// None where the numbers rise: then the fonts stand in their order.
+    index: Option<NumberIndex>,
 }
 
 impl<'a> Model for Fonts<'a> {
@@ -26,14 +28,15 @@ impl<'a> Model for Fonts<'a> {
     ghost use Rattle.dvi_ops.specs.Command.{Definition};
     ghost use Rattle.dvi_doc.specs.Grammar.{numbers_of};
     ghost use Rattle.dvi_ops.specs.Numbered.{numbered};
-    ghost use Rattle.std.specs.Prelude.{List, map};
+    ghost use Rattle.dvi_doc.specs.Rising.{Rise};
+    ghost use Rattle.std.specs.Prelude.{List, map, MatchOption};
     ghost use Rattle.std.specs.List.Sorted.{IsPermutation};
 
     ghost Value = { List Definition };
 
     ghost view = { λ f. map def_view f.fonts.items };
 
-    ghost invariant = { λ f. IsPermutation (numbered 0 (numbers_of (map def_view f.fonts.items))) f.index };
+    ghost invariant = { λ f. MatchOption f.index (Rise (numbers_of (map def_view f.fonts.items))) (IsPermutation (numbered 0 (numbers_of (map def_view f.fonts.items)))) };
 }
 
 /// That each definition is as it should be.
@@ -59,6 +62,39 @@ fn index_of(alloc: Global, defs: &[Def<'_>]) -> Result<NumberIndex, AllocError>
     Ok(NumberIndex::new(pairs))
 }
 
+/// Whether the numbers of definitions rise.
+fn are_rising(defs: &[Def<'_>]) -> bool
+    ensures { IsTrue result → Rise (numbers_of (map def_view defs.now)) }
+{
+    for at in 1..defs.len() {
+        let (before, k) = (defs[at - 1].k, defs[at].k);
+        if k <= before {
+            return false;
+        }
+    }
+    true
+}
+
+/// The definition of a number among definitions whose numbers rise.
+fn find<'d, 'a>(defs: &'d [Def<'a>], k: i64) -> Option<&'d Def<'a>>
+    requires { Rise (numbers_of (map def_view defs.now)) }
+    ensures { MatchOption result (Defines (map def_view defs.now) k → ⊥) (λ font. Contains (map def_view defs.now) (def_view font.now) × (font.now.k ≡ k)) }
+{
+    match defs.binary_search_by_key(&k, |def| def.k) {
+        Ok(at) => Some(&defs[at]),
+        Err(_) => None,
+    }
+}
+
+/// The definition of a number, by the index of the numbers.
+fn find_by<'d, 'a>(defs: &'d [Def<'a>], index: &NumberIndex, k: i64) -> Option<&'d Def<'a>>
+    requires { IsPermutation (numbered 0 (numbers_of (map def_view defs.now))) index.now }
+    ensures { MatchOption result (Defines (map def_view defs.now) k → ⊥) (λ font. Contains (map def_view defs.now) (def_view font.now) × (font.now.k ≡ k)) }
+{
+    let place = index.place(k)?;
+    Some(&defs[place])
+}
+
 impl<'a> Fonts<'a> {
     /// The fonts of these definitions.
     pub fn new(alloc: Global, defs: Vec<Def<'a>>) -> Result<Fonts<'a>, DocFault>
@@ -66,11 +102,21 @@ impl<'a> Fonts<'a> {
         ensures fault { IfErr result (FontFault (map def_view defs.entry.items)) }
     {
         check_each(&defs)?;
+        // Where the numbers rise, nothing is sorted and no memory is taken for an index.
+        if are_rising(&defs) {
+            return Ok(Fonts {
+                fonts: defs,
+                index: None,
+            });
+        }
         let index = index_of(alloc, &defs)?;
         if let Some(k) = index.twice() {
             return Err(DocFault::FontTwice { k });
         }
-        Ok(Fonts { fonts: defs, index })
+        Ok(Fonts {
+            fonts: defs,
+            index: Some(index),
+        })
     }
 
     /// All of them.
@@ -84,8 +130,10 @@ impl<'a> Fonts<'a> {
     pub fn get(&self, k: i64) -> Option<&Def<'a>>
         ensures { MatchOption result (Defines self.now k → ⊥) (λ font. Contains self.now (def_view font.now) × (font.now.k ≡ k)) }
     {
-        let place = self.index.place(k)?;
-        Some(&self.fonts[place])
+        match &self.index {
+            None => find(&self.fonts, k),
+            Some(index) => find_by(&self.fonts, index, k),
+        }
     }
 
     /// Whether one of the fonts is what a definition says, in all fields.

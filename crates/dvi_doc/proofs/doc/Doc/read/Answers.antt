@@ -1,12 +1,14 @@
-use Rattle.std.proofs.Common.{◌≡◌, ap, subst, ◌∙◌, refl, rules, map, List, length}
+use Rattle.std.proofs.Common.{◌≡◌, ◌<◌, subst, sym, refl, rules, map, arith, List, length}
 use Rattle.std.proofs.lemmas.Result.{err_from_is_err_and}
 use Rattle.dvi_ops.specs.View.{def_view}
 use Rattle.dvi_ops.specs.declared.cmd.Def.{Def}
 use Rattle.dvi_doc.specs.Grammar.{AllAmong}
-use Rattle.dvi_doc.specs.Faults.{FaultIn, FontFault}
+use Rattle.dvi_doc.specs.Faults.{FaultIn}
 use Rattle.dvi_doc.specs.PartFaults.{Differs}
 use Rattle.dvi_doc.proofs.Judged.{font_fault, differs_fault, tail_fault, doc_found}
 use Rattle.dvi_doc.proofs.Refuted.{refute}
+use Rattle.dvi_ops.specs.Command.{Preamble}
+use Rattle.dvi_doc.proofs.Comments.{short_comment}
 use Rattle.dvi_doc.proofs.doc.Doc.read.Goals as goal
 
 pub returns-in_err-parts-clause-none : goal.returns-in_err-parts-clause-none
@@ -62,8 +64,10 @@ returns-in_err-check_tail-clause-none c =
 pub invariant_of-result : goal.invariant_of-result
 invariant_of-result c =
     let n : c.len.result ≡ length c.in_ok-parts.parts.body.pages.items = search rules in
-    doc_found c.args.bytes.now c.in_ok-parts.parts c.in_ok-fonts.fonts c.len.result c.in_ok-parts.ensures.found c.in_ok-fonts.ensures.found.0 c.in_ok-fonts.ensures.found.1
-    (subst (λ (l : List Def). AllAmong c.in_ok-fonts.fonts (map def_view l)) c.deref.ensures.value c.in_ok-check.ensures.same) n c.in_ok-check_tail.ensures.same
+    let r = doc_found c.args.bytes.now c.in_ok-parts.parts c.in_ok-fonts.fonts c.len.result c.in_ok-parts.ensures.found c.in_ok-fonts.ensures.found.0 c.in_ok-fonts.ensures.found.1
+    (subst (λ (l : List Def). AllAmong c.in_ok-fonts.fonts (map def_view l)) c.deref.ensures.value c.in_ok-check.ensures.same) n c.in_ok-check_tail.ensures.same in
+    let short = short_comment c.args.bytes.now r.0 (λ i. (let f = c.type_inv.bytes i in omega (arith, f))) r.1 in
+    (r.0, r.1, r.2, subst (λ (h : Preamble). length h.comment < 256) (sym r.2.0) short)
 
 pub returns-clause-found : goal.returns-clause-found
 returns-clause-found c =
