@@ -12,5 +12,5 @@ pub mod Few
 pub mod Ended
 pub mod UnitsRead
 pub mod Said
-pub mod Retyped
+pub mod Served
 pub mod Complete

@@ -13,6 +13,7 @@ use crate::read::read_input;
 use crate::words::{Job, read_words};
 use dv_base::{Shelf, Tray};
 use dvi_doc::one_document;
+use font_set::{can_be_had, one_font};
 use std::alloc::Global;
 
 /// Reads the input of a job and prints it.
@@ -66,6 +67,8 @@ pub fn run_tool<S: Shelf, T: Tray>(
     ensures complete { IsComplete (map string_bytes words.now) (S.told shelf.old) (S.told shelf.new) (T.seen tray.old) (T.seen tray.new) result }
 {
     one_document();
+    one_font();
+    can_be_had();
     let outcome = run_words(alloc, words, shelf, tray);
     outcome.say(tray);
     outcome

@@ -152,7 +152,7 @@ acts_split scope sel (c ∷ before) cs =
     ap (λ (xs : List FontAct). acts_of_command scope sel c.command ++ xs) (acts_split scope (selected scope sel c.command) before cs)
     ∙ sym (append_assoc (acts_of_command scope sel c.command) (acts_from scope (selected scope sel c.command) before) (acts_from scope (selected_after scope (selected scope sel c.command) before) cs))
 
-char_acts : (scope : Scope) (sel : Option Key) (c : Command) (z : ℤ) → IsCharCommand c z → acts_of_command scope sel c ≡ char_act sel z ∷ []
+pub char_acts : (scope : Scope) (sel : Option Key) (c : Command) (z : ℤ) → IsCharCommand c z → acts_of_command scope sel c ≡ char_act sel z ∷ []
 char_acts scope sel (Set y) z h = ap (λ (x : ℤ). char_act sel x ∷ []) h
 char_acts scope sel (Put y) z h = ap (λ (x : ℤ). char_act sel x ∷ []) h
 char_acts scope sel _ z h = absurd h
@@ -162,7 +162,7 @@ unfolding acts_from
 char_first scope sel c cs z h = ap (λ (xs : List FontAct). xs ++ acts_from scope (selected scope sel c.command) cs) (char_acts scope sel c.command z h)
 
 -- the acts of a frame behind the selection of its first font
-behind_first : (p : Program) → (front : List FontAct) × (acts_of p ≡ front ++ acts_from p.scope (key_of_first p.first) p.commands)
+pub behind_first : (p : Program) → (front : List FontAct) × (acts_of p ≡ front ++ acts_from p.scope (key_of_first p.first) p.commands)
 behind_first p = by p.first
   where
     by : (o : Option Named) → (front : List FontAct) × (acts_with_first p.scope o p.commands ≡ front ++ acts_from p.scope (key_of_first o) p.commands)
@@ -197,7 +197,7 @@ set_runs set id code p l s =
     )
 
 -- a packet that is run has the acts of its character
-packet_body : (set : FontSet) (page : Program) (id code : ℕ) (program : Program) (p : PacketOf set page id code program) → body set p.char ≡ acts_of program
+pub packet_body : (set : FontSet) (page : Program) (id code : ℕ) (program : Program) (p : PacketOf set page id code program) → body set p.char ≡ acts_of program
 packet_body set page id code program p =
     body_is set p.char id p.font
     ∙ ap (λ (n : ℕ). acts_of (program_or set id n)) p.same

@@ -24,3 +24,7 @@ pub mod Turning
 pub mod Defining
 pub mod Showing
 pub mod Paging
+pub mod OneFont
+pub mod Alike
+pub mod Sums
+pub mod Refuted

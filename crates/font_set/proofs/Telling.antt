@@ -4,7 +4,7 @@ use Rattle.dv_base.specs.Shelf.{Contents, Told, Keeps}
 use Rattle.dvi_doc.specs.declared.font.FontKey.{FontKey}
 use Rattle.pk_raster.specs.Font.Known.{Nothing, Large}
 use Rattle.font_set.specs.Key.{Key}
-use Rattle.font_set.specs.Fonts.{FontSet, key_at, state_at, packet_at, IsVirtual}
+use Rattle.font_set.specs.Fonts.{FontSet, key_at, state_at, packet_at, IsLoaded, IsVirtual}
 use Rattle.font_set.specs.Programs.{Named, Program, program_at, key_of_first}
 use Rattle.font_set.specs.Views.{key_of}
 use Rattle.font_set.specs.Locals.{FirstAnswer}
@@ -26,13 +26,13 @@ use Rattle.font_set.proofs.Shelves.{loaded_before}
 
 module _ (set : FontSet) (page : Program) (a b c : Told) (k : Keeps a b) where
   font_before : (f : FontFault) → FontFaultIs set page b c f → FontFaultIs set page a c f
-  font_before (font.Missing n) h = (h.0, h.1, loaded_before set (key_at set h.0) a b c k (font.Missing n) h.2)
-  font_before (font.FileTooLong n) h = (h.0, h.1, loaded_before set (key_at set h.0) a b c k (font.FileTooLong n) h.2)
-  font_before (font.ReadFault n) h = (h.0, h.1, loaded_before set (key_at set h.0) a b c k (font.ReadFault n) h.2)
-  font_before (font.Tfm n e) h = (h.0, h.1, loaded_before set (key_at set h.0) a b c k (font.Tfm n e) h.2)
-  font_before (font.Vf n e) h = (h.0, h.1, loaded_before set (key_at set h.0) a b c k (font.Vf n e) h.2)
-  font_before (font.Pk n e) h = (h.0, h.1, loaded_before set (key_at set h.0) a b c k (font.Pk n e) h.2)
-  font_before font.RasterSpace h = (h.0, h.1, loaded_before set (key_at set h.0) a b c k font.RasterSpace h.2)
+  font_before (font.Missing n) h = (h.0, h.1, h.2, loaded_before set (key_at set h.0) a b c k (font.Missing n) h.3)
+  font_before (font.FileTooLong n) h = (h.0, h.1, h.2, loaded_before set (key_at set h.0) a b c k (font.FileTooLong n) h.3)
+  font_before (font.ReadFault n) h = (h.0, h.1, h.2, loaded_before set (key_at set h.0) a b c k (font.ReadFault n) h.3)
+  font_before (font.Tfm n e) h = (h.0, h.1, h.2, loaded_before set (key_at set h.0) a b c k (font.Tfm n e) h.3)
+  font_before (font.Vf n e) h = (h.0, h.1, h.2, loaded_before set (key_at set h.0) a b c k (font.Vf n e) h.3)
+  font_before (font.Pk n e) h = (h.0, h.1, h.2, loaded_before set (key_at set h.0) a b c k (font.Pk n e) h.3)
+  font_before font.RasterSpace h = (h.0, h.1, h.2, loaded_before set (key_at set h.0) a b c k font.RasterSpace h.3)
   font_before font.OutOfMemory h = tt
   font_before font.TooManyFonts h = h
   font_before (font.BadSize parts) h = h
@@ -101,17 +101,17 @@ module _ (set : FontSet) (page : Program) (id : ℕ) (z : ℤ) (s : InSome set p
   open_told a b font.OutOfMemory h = tt
   open_told a b _ h = absurd h
 
-  load_told : (a b : Told) (f : FontFault) → NotLoaded set (key_at set id) a b f → FontFaultIs set page a b f
-  load_told a b (font.BadSize parts) h = absurd h
-  load_told a b font.TooManyFonts h = absurd h
-  load_told a b font.OutOfMemory h = tt
-  load_told a b (font.Missing n) h = (id, (z, s), h)
-  load_told a b (font.FileTooLong n) h = (id, (z, s), h)
-  load_told a b (font.ReadFault n) h = (id, (z, s), h)
-  load_told a b (font.Tfm n e) h = (id, (z, s), h)
-  load_told a b (font.Vf n e) h = (id, (z, s), h)
-  load_told a b (font.Pk n e) h = (id, (z, s), h)
-  load_told a b font.RasterSpace h = (id, (z, s), h)
+  load_told : (a b : Told) (f : FontFault) → (IsLoaded (state_at set id) → ⊥) → NotLoaded set (key_at set id) a b f → FontFaultIs set page a b f
+  load_told a b (font.BadSize parts) u h = absurd h
+  load_told a b font.TooManyFonts u h = absurd h
+  load_told a b font.OutOfMemory u h = tt
+  load_told a b (font.Missing n) u h = (id, (z, s), u, h)
+  load_told a b (font.FileTooLong n) u h = (id, (z, s), u, h)
+  load_told a b (font.ReadFault n) u h = (id, (z, s), u, h)
+  load_told a b (font.Tfm n e) u h = (id, (z, s), u, h)
+  load_told a b (font.Vf n e) u h = (id, (z, s), u, h)
+  load_told a b (font.Pk n e) u h = (id, (z, s), u, h)
+  load_told a b font.RasterSpace u h = (id, (z, s), u, h)
 
   pub meet_told : (a b : Told) (e : LoadFault) → MeetFault set id z a b e → LoadFaultIs set page a b e
   meet_told a b (load.NoChar i y) h =
@@ -127,7 +127,7 @@ module _ (set : FontSet) (page : Program) (id : ℕ) (z : ℤ) (s : InSome set p
       let P = λ (i : ℕ). InSome set page (SetsIn set i (pos code)) × (look_at set i code ≡ Some (Large bytes)) in
       subst P (sym h.0) (at_code code h.1, h.2)
   meet_told a b (load.Font f) (inl h) = open_told a b f h
-  meet_told a b (load.Font f) (inr h) = load_told a b f h
+  meet_told a b (load.Font f) (inr h) = load_told a b f h.0 h.1
   meet_told a b _ h = absurd h
 
 -- what the set gains where a character is met is for the page in which it is set

@@ -23,3 +23,4 @@ pub mod Laws
 pub mod Progress
 pub mod Found
 pub mod Asking
+pub mod Alike

@@ -14,7 +14,7 @@ use Rattle.pk_raster.specs.Font.{Font, Known, glyph_at}
 use Rattle.pk_raster.specs.Font.Known.{Nothing, Large}
 use Rattle.font_set.specs.Key.{Key}
 use Rattle.font_set.specs.LocalKey.{local_design, local_key}
-use Rattle.font_set.specs.Fonts.{State, FontSet, place_of, key_at, state_at, size_at, width_at, packet_at, IsVirtual}
+use Rattle.font_set.specs.Fonts.{State, FontSet, place_of, key_at, state_at, size_at, width_at, packet_at, IsLoaded, IsVirtual}
 use Rattle.font_set.specs.Programs.{Named, Scope, Program, HasNumber, key_in, program_at, key_of_first, id_of}
 use Rattle.font_set.specs.Locals.{BadNumber, BadFirst}
 use Rattle.font_set.specs.FontFaults.{IsFull, NotLoaded}
@@ -74,9 +74,9 @@ SetsNowhere program at = (c : CommandOf program at) × (z : ℤ) × IsCharComman
 abbrev pub SetsIn : FontSet → ℕ → ℤ → Program → Type 0
 SetsIn set id z program = (at : ℕ) × (c : CommandOf program at) × IsCharCommand c.command z × (id_of set c.sel ≡ Some id)
 
--- the code isn't from 0 to 255, or the font has no width for it
+-- the code isn't from 0 to 255, or the font is loaded and has no width for it
 abbrev pub HasNoWidth : FontSet → ℕ → ℤ → Type 0
-HasNoWidth set id z = ((c : ℕ) → z ≡ pos c → 255 < c) ⊎ ((c : ℕ) × (z ≡ pos c) × (width_at set id c ≡ None))
+HasNoWidth set id z = ((c : ℕ) → z ≡ pos c → 255 < c) ⊎ ((c : ℕ) × (z ≡ pos c) × IsLoaded (state_at set id) × (width_at set id c ≡ None))
 
 -- what the bitmaps of a font tell of a code
 abbrev pub look_by : Option Font → ℕ → Option Known
@@ -113,6 +113,10 @@ MustLoad set page id = (z : ℤ) × InSome set page (SetsIn set id z)
 abbrev pub SelectsBad : FontSet → ℕ → FontKeyParts → Program → Type 0
 SelectsBad set id parts program = BadFirst set id parts ⊎ ((at : ℕ) × (c : CommandOf program at) × (k : ℤ) × (c.command ≡ Fnt k) × BadNumber set id k parts)
 
+-- The font must be loaded, it isn't yet, and it can't be.
+abbrev pub CantLoad : FontSet → Program → Told → Told → FontFault → Type 0
+CantLoad set page old new f = (id : ℕ) × MustLoad set page id × (IsLoaded (state_at set id) → ⊥) × NotLoaded set (key_at set id) old new f
+
 -- What a fault of a font says, where the shelf told this before the call, and this after it: a packet of the page selects the local
 -- font; the key is selected in a frame of the page, 1,000 are known, and this one isn't; or the font must be loaded, and it can't be.
 -- Want of memory says nothing.
@@ -120,7 +124,7 @@ abbrev pub FontFaultIs : FontSet → Program → Told → Told → FontFault →
 FontFaultIs set page old new (font.BadSize parts) = (id : ℕ) × (code : ℕ) × (program : Program) × PacketOf set page id code program × SelectsBad set id parts program
 FontFaultIs set page old new font.TooManyFonts = (key : Key) × MustKnow set page key × IsFull set.fonts key
 FontFaultIs set page old new font.OutOfMemory = Unit {0}
-FontFaultIs set page old new f = (id : ℕ) × MustLoad set page id × NotLoaded set (key_at set id) old new f
+FontFaultIs set page old new f = CantLoad set page old new f
 
 -- What each fault says of the frames of the page.
 abbrev pub LoadFaultIs : FontSet → Program → Told → Told → LoadFault → Type 0

@@ -180,7 +180,7 @@ OpenFault set id z _ = ⊥
 
 -- why a character can't be met, where the shelf told this before and this now
 abbrev pub MeetFault : FontSet → ℕ → ℤ → Told → Told → LoadFault → Type 0
-MeetFault set id z old new (load.Font f) = OpenFault set id z f ⊎ NotLoaded set (key_at set id) old new f
+MeetFault set id z old new (load.Font f) = OpenFault set id z f ⊎ ((IsLoaded (state_at set id) → ⊥) × NotLoaded set (key_at set id) old new f)
 MeetFault set id z old new e = IsCharFault set id z e
 
 -- the key may be made known

@@ -6,9 +6,9 @@ ghost use Rattle.pk_raster.specs.Font.{size};
 ghost use Rattle.tfm_widths.specs.Widths.{Table, IsTfm};
 ghost use Rattle.tfm_widths.specs.Faults.{FaultIn, IsOfBytes};
 ghost use Rattle.font_set.specs.Key.{IsKey};
-ghost use Rattle.font_set.specs.Fonts.{State, state_at, raster_bytes, raster_bytes_in, key_at};
+ghost use Rattle.font_set.specs.Fonts.{State, state_at, raster_bytes, raster_bytes_in, key_at, IsLoaded};
 ghost use Rattle.font_set.specs.FontOf.{HasTfm, HasVf, HasPk, Loads, WantsPackets, WantsRasters, pk_name, vf_name, resolution, most_file};
-ghost use Rattle.font_set.specs.FontFaults.{NotLoaded, raster_room, IsFirstPk};
+ghost use Rattle.font_set.specs.FontFaults.{NotLoaded, raster_room, IsFirstPk, IsRealBy};
 ghost use Rattle.font_set.specs.Files.{ReadGives, NotRead, CandidateGives, VfGives, IsPkFound, IsRealRead, IsRead, with_state};
 ghost use Rattle.font_set.specs.Growth.{Loaded};
 ghost use Rattle.font_set.specs.Stored.{HasWanted, IsSound, AreFine, AreDrawn, state_of};
@@ -184,6 +184,7 @@ impl Fonts {
     ) -> Result<(FileName, Vec<u8>), FontFault>
         requires key { IsKey (key_of key.now) }
         requires wanted { WantsRasters self.now.want }
+        requires real { IsRealBy self.now (key_of key.now) (S.told shelf.old) }
         ensures found { IfOk result (IsPkFound self.now (key_of key.now) (S.told shelf.old)) }
         ensures fault { IfErr result (NotLoaded self.now (key_of key.now) (S.told shelf.old) (S.told shelf.new)) }
         ensures keeps { Keeps (S.told shelf.old) (S.told shelf.new) }
@@ -207,6 +208,7 @@ impl Fonts {
     fn read_pk<S: Shelf>(&self, shelf: &mut S, key: &FontKey) -> Result<Pk, FontFault>
         requires key { IsKey (key_of key.now) }
         requires wanted { WantsRasters self.now.want }
+        requires real { IsRealBy self.now (key_of key.now) (S.told shelf.old) }
         ensures pk { IfOk result (λ pk. WhereHeld (S.told shelf.old).held (λ held. HasPk held self.now.units (key_of key.now) pk)) }
         ensures drawn { IfOk result (λ pk. AreDrawn (Some pk)) }
         ensures room { IfOk result (λ pk. raster_bytes self.now.fonts + size pk ≤ 2 ^ 30) }
@@ -226,6 +228,7 @@ impl Fonts {
     /// Reads a real font.
     fn read_real<S: Shelf>(&self, shelf: &mut S, key: &FontKey) -> Result<Font, FontFault>
         requires key { IsKey (key_of key.now) }
+        requires real { IsRealBy self.now (key_of key.now) (S.told shelf.old) }
         ensures font { IfOk result (λ font. IsRealRead self.now (key_of key.now) (S.told shelf.old) (state_of font)) }
         ensures fault { IfErr result (NotLoaded self.now (key_of key.now) (S.told shelf.old) (S.told shelf.new)) }
         ensures keeps { Keeps (S.told shelf.old) (S.told shelf.new) }
@@ -279,6 +282,7 @@ impl Fonts {
         ensures loaded { OnOk result (Loaded self.old self.new id) }
         ensures count { length self.new.fonts ≡ length self.old.fonts }
         ensures same { OnErr result (self.new ≡ self.old) }
+        ensures unread { OnErr result (IsLoaded (state_at self.old id) → ⊥) }
         ensures fault { IfErr result (NotLoaded self.old (key_at self.old id) (S.told shelf.old) (S.told shelf.new)) }
         ensures keeps { Keeps (S.told shelf.old) (S.told shelf.new) }
     {

@@ -30,5 +30,5 @@ mod want;
 
 pub use fault::{FontFault, FontKeyParts, LoadFault};
 pub use fonts::Fonts;
-pub use laws::{covers_later, one_key, order_of_tree};
+pub use laws::{can_be_had, covers_later, one_font, one_key, order_of_tree};
 pub use want::{Kind, Want};

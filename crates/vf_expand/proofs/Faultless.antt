@@ -138,23 +138,23 @@ after_none : (o : Outcome) (f : State → Outcome) → o ≡ None → after o f 
 after_none None f e = refl
 after_none (Some r) f e = absurd cc
 
-passed_walk : (m : Meaning) (at : ℕ) (c : Command) (cs : List Placed) (os : List Place) (s : State) → Passes m c s → walk m (record { place = at; command = c } ∷ cs) os s ≡ None
+pub passed_walk : (m : Meaning) (at : ℕ) (c : Command) (cs : List Placed) (os : List Place) (s : State) → Passes m c s → walk m (record { place = at; command = c } ∷ cs) os s ≡ None
 unfolding walk
 passed_walk m at Push cs os s h = absurd h
 passed_walk m at Pop cs os s h = absurd h
 passed_walk m at c cs os s h = after_none (step m c s) _ (passes_none m c s h)
 
-under_walk : (m : Meaning) (at : ℕ) (c : Command) (cs : List Placed) (os : List Place) (s : State) → IsUnder c os → walk m (record { place = at; command = c } ∷ cs) os s ≡ None
+pub under_walk : (m : Meaning) (at : ℕ) (c : Command) (cs : List Placed) (os : List Place) (s : State) → IsUnder c os → walk m (record { place = at; command = c } ∷ cs) os s ≡ None
 unfolding walk
 under_walk m at c cs os s h =
     ap (λ (d : Command). walk m (record { place = at; command = d } ∷ cs) os s) h.0
     ∙ ap (λ (ps : List Place). walk m (record { place = at; command = Pop } ∷ cs) ps s) h.1
 
-set_walk : (m : Meaning) (at : ℕ) (z : ℤ) (cs : List Placed) (os : List Place) (s : State) → m.char s.font z s.place ≡ None → walk m (record { place = at; command = Set z } ∷ cs) os s ≡ None
+pub set_walk : (m : Meaning) (at : ℕ) (z : ℤ) (cs : List Placed) (os : List Place) (s : State) → m.char s.font z s.place ≡ None → walk m (record { place = at; command = Set z } ∷ cs) os s ≡ None
 unfolding walk step
 set_walk m at z cs os s h = after_none (set_char m.grid s (m.char s.font z s.place)) _ (ap (set_char m.grid s) h)
 
-put_walk : (m : Meaning) (at : ℕ) (z : ℤ) (cs : List Placed) (os : List Place) (s : State) → m.char s.font z s.place ≡ None → walk m (record { place = at; command = Put z } ∷ cs) os s ≡ None
+pub put_walk : (m : Meaning) (at : ℕ) (z : ℤ) (cs : List Placed) (os : List Place) (s : State) → m.char s.font z s.place ≡ None → walk m (record { place = at; command = Put z } ∷ cs) os s ≡ None
 unfolding walk step
 put_walk m at z cs os s h = after_none (put_char s (m.char s.font z s.place)) _ (ap (put_char s) h)
 
@@ -185,7 +185,7 @@ own_faultless m sp around at c behind os s goes fault.TooManySteps h = tt
 own_faultless m sp around at c behind os s goes (fault.Overflow x) h = goes (passed_walk m at c behind os s h.1)
 own_faultless m sp around at c behind os s goes (fault.Canvas f) h = tt
 
-there_is : {A : Type 0} (o : Option A) → (o ≡ None → ⊥) → (x : A) × (o ≡ Some x)
+pub there_is : {A : Type 0} (o : Option A) → (o ≡ None → ⊥) → (x : A) × (o ≡ Some x)
 there_is None h = absurd (h refl)
 there_is (Some x) h = (x, refl)
 
@@ -229,11 +229,11 @@ virtual_none g id code p (sets.State.Virtual tfm vf) o None h = refl
 virtual_none g id code p (sets.State.Virtual tfm vf) None (Some w) h = refl
 virtual_none g id code p (sets.State.Virtual tfm vf) (Some x) (Some w) h = refl
 
-no_marks : (o : Option (List Mark × ℤ)) (q : List Mark × ℤ) → o ≡ Some q → o ≡ None → ⊥
+pub no_marks : (o : Option (List Mark × ℤ)) (q : List Mark × ℤ) → o ≡ Some q → o ≡ None → ⊥
 no_marks None q e n = cc
 no_marks (Some x) q e n = cc
 
-nested_none : (g : Grid) (set : FontSet) (id code : ℕ) (p : Place) → IsVirtual (state_at set id) → chars g set 0 (Some id) (pos code) p ≡ None
+pub nested_none : (g : Grid) (set : FontSet) (id code : ℕ) (p : Place) → IsVirtual (state_at set id) → chars g set 0 (Some id) (pos code) p ≡ None
 unfolding chars
 nested_none g set id code p h = virtual_none g id code p (state_at set id) (program_at set id code) (width_at set id code) h
 
@@ -281,7 +281,7 @@ first_marks : (set : FontSet) (first : Option Named) (m : Outcome) (r : List Mar
 first_marks set None m r e = e
 first_marks set (Some f) m r e = font_marks (id_of set f.key) m r e
 
-packet_marks : (g : Grid) (set : FontSet) (n id code : ℕ) (p : Place) (program : Program) (q : List Mark × ℤ) → program_at set id code ≡ Some program → chars g set (suc n) (Some id) (pos code) p ≡ Some q → (r : List Mark × State) × (frame_marks g set n program (inner p) ≡ Some r)
+pub packet_marks : (g : Grid) (set : FontSet) (n id code : ℕ) (p : Place) (program : Program) (q : List Mark × ℤ) → program_at set id code ≡ Some program → chars g set (suc n) (Some id) (pos code) p ≡ Some q → (r : List Mark × State) × (frame_marks g set n program (inner p) ≡ Some r)
 unfolding chars
 packet_marks g set n id code p program q e k =
     let b = ran (λ x y. first_there set x.first (frame_marks g set n x y)) g id code p (state_at set id) (program_at set id code) (width_at set id code) program q (program_virtual set id code program e) e k in

@@ -18,3 +18,5 @@ mod Amounts
 mod Selecting
 pub mod Paging
 pub mod Faultless
+pub mod Alike
+pub mod AlikeMarks

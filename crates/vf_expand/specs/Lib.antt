@@ -1,6 +1,7 @@
 pub mod Commands
 pub mod Meaning
 pub mod Grid
+pub mod Wide
 pub mod Marks
 pub mod Turn
 pub mod Pages
@@ -13,3 +14,4 @@ pub mod Shallow
 pub mod Page
 pub mod Faultless
 pub mod Given
+pub mod Alike

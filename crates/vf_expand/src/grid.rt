@@ -7,6 +7,7 @@ ghost use Rattle.positions.specs.Mark.{IsModerate};
 ghost use Rattle.vf_expand.specs.Pages.{glyph_at};
 ghost use Rattle.vf_expand.specs.Takes.{MayCome, Nothing};
 ghost use Rattle.vf_expand.specs.Causes.{IsLarge};
+ghost use Rattle.vf_expand.specs.Wide.{IsWide};
 
 use dv_base::{Conv, FontId};
 use positions::{GlyphMark, Passed, Pos, RuleMark};
@@ -31,6 +32,13 @@ impl Model for Grid {
     ghost invariant = { λ g. IsDrift g.drift };
 
     ghost inverse = { λ g. record { across = g.across; down = g.down; drift = g.drift } };
+}
+
+/// How wide a character is, in units and in pixels.
+#[derive(Clone, Copy)]
+pub struct Wide {
+    pub width: i64,
+    pub pixels: i64,
 }
 
 impl Grid {
@@ -78,21 +86,32 @@ impl Grid {
         pos.advance(&self.across, self.drift, b, pixels)
     }
 
-    /// Moves right past a character of this width.
-    pub fn past_char(&self, pos: &mut Pos, width: i64) -> Result<(), Passed>
+    /// How wide a character of this width is.
+    pub fn wide(&self, width: i64) -> Wide
         requires { unsigned_abs width < 2 ^ 32 }
-        ensures ok { OnOk result (past_char self.now width pos.old ≡ Some pos.new) }
-        ensures none { OnErr result (past_char self.now width pos.old ≡ None) }
-        ensures large { OnErr result (IsLarge (pos.old.h +ℤ width)) }
+        ensures wide { IsWide self.now result }
+        ensures same { result.width ≡ width }
     {
         let pixels = self.across.round(width);
-        pos.advance(&self.across, self.drift, width, pixels)
+        Wide { width, pixels }
+    }
+
+    /// Moves right past a character.
+    #[inline(always)]
+    pub fn past_char(&self, pos: &mut Pos, wide: &Wide) -> Result<(), Passed>
+        requires { IsWide self.now wide.now }
+        ensures ok { OnOk result (past_char self.now wide.now.width pos.old ≡ Some pos.new) }
+        ensures none { OnErr result (past_char self.now wide.now.width pos.old ≡ None) }
+        ensures large { OnErr result (IsLarge (pos.old.h +ℤ wide.now.width)) }
+    {
+        pos.advance(&self.across, self.drift, wide.width, wide.pixels)
     }
 
     /// The glyph of a character at a place.
-    pub fn glyph(&self, font: FontId, code: u8, here: &Pos, width: i64) -> GlyphMark
-        requires { unsigned_abs width < 2 ^ 32 }
-        ensures mark { glyph_of result ≡ glyph_at self.now font code here.now width }
+    #[inline(always)]
+    pub fn glyph(&self, font: FontId, code: u8, here: &Pos, wide: &Wide) -> GlyphMark
+        requires { IsWide self.now wide.now }
+        ensures mark { glyph_of result ≡ glyph_at self.now font code here.now wide.now.width }
         ensures fit { IsModerate (glyph_of result) }
     {
         GlyphMark {
@@ -102,8 +121,8 @@ impl Grid {
             y: here.vv,
             h: here.h,
             v: here.v,
-            width,
-            pixels: self.across.round(width),
+            width: wide.width,
+            pixels: wide.pixels,
         }
     }
 

@@ -9,6 +9,7 @@ ghost use Rattle.font_set.specs.Programs.{Program, page_program};
 ghost use Rattle.font_set.specs.Search.{page_of};
 ghost use Rattle.font_set.specs.Tree.{IsTreeOf, Tree, tree_of};
 ghost use Rattle.font_set.specs.Expand.{expand};
+ghost use Rattle.vf_expand.specs.Alike.{CountAlike, FaultlessAlike, MarksOfPageAlike};
 ghost use Rattle.vf_expand.specs.Grid.{Grid};
 ghost use Rattle.vf_expand.specs.Pages.{frame_marks, first_there};
 ghost use Rattle.font_set.specs.Shapes.{shapes_of};
@@ -18,6 +19,7 @@ ghost use Rattle.vf_expand.specs.Page.{IsPage};
 
 use dvi_doc::one_document;
 use dvi_ops::one_reading;
+use font_set::one_font;
 
 /// The tree of commands is the one tree whose commands they are, front to back. A caller cites what this ensures; the call does
 /// nothing.
@@ -45,3 +47,13 @@ pub fn pages_by_place()
 pub fn marked_pages()
     ensures { MarkedIsFaultless }
 {}
+
+/// With the fonts of two sets that have them from the same files, a page has no fault with the one where it has none with the other, runs
+/// as many commands, and has alike marks. A caller cites what this ensures; the call does nothing.
+pub fn alike_pages()
+    ensures faultless { FaultlessAlike }
+    ensures count { CountAlike }
+    ensures marks { MarksOfPageAlike }
+{
+    one_font();
+}

@@ -13,6 +13,7 @@
 #![tactic(auto)]
 
 mod fault;
+mod glyphs;
 mod grid;
 mod home;
 mod laws;
@@ -23,7 +24,7 @@ mod shift;
 mod walker;
 
 pub use fault::WalkFault;
-pub use laws::{expanding, marked_pages, pages_by_place, trees};
+pub use laws::{alike_pages, expanding, marked_pages, pages_by_place, trees};
 pub use walker::Walker;
 
 #[cfg(test)]

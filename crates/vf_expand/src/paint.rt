@@ -6,9 +6,10 @@ ghost use Rattle.vf_expand.specs.Takes.{CanTake, Nothing, Took, Halts, TookChar,
 ghost use Rattle.positions.specs.Mark.{IsModerate};
 ghost use Rattle.vf_expand.specs.Pages.{glyph_at};
 ghost use Rattle.vf_expand.specs.Causes.{IsRefusal};
+ghost use Rattle.vf_expand.specs.Wide.{IsWide};
 
 use crate::fault::Halt;
-use crate::grid::Grid;
+use crate::grid::{Grid, Wide};
 use dv_base::FontId;
 use positions::{Canvas, Pos, SpecialMark};
 
@@ -56,21 +57,22 @@ pub fn put_special<C: Canvas>(pos: &Pos, bytes: &[u8], canvas: &mut C) -> Result
 }
 
 /// Paints the glyph of a character at a place.
+#[inline(always)]
 pub fn put_glyph<C: Canvas>(
     grid: &Grid,
     font: FontId,
     code: u8,
     pos: &Pos,
-    width: i64,
+    wide: &Wide,
     canvas: &mut C,
 ) -> Result<(), C::Fault>
-    requires width { unsigned_abs width < 2 ^ 32 }
-    requires can { IsModerate (glyph_at grid.now font code pos.now width) → C.can canvas.old (glyph_at grid.now font code pos.now width) }
-    ensures ok { OnOk result (C.takes canvas.old canvas.new (glyph_at grid.now font code pos.now width ∷ [])) }
-    ensures fit { IsModerate (glyph_at grid.now font code pos.now width) }
+    requires wide { IsWide grid.now wide.now }
+    requires can { IsModerate (glyph_at grid.now font code pos.now wide.now.width) → C.can canvas.old (glyph_at grid.now font code pos.now wide.now.width) }
+    ensures ok { OnOk result (C.takes canvas.old canvas.new (glyph_at grid.now font code pos.now wide.now.width ∷ [])) }
+    ensures fit { IsModerate (glyph_at grid.now font code pos.now wide.now.width) }
     ensures same { OnOk result (SameCondition C.can canvas.old canvas.new) }
-    ensures stops { IfErr result (λ f. C.refuses canvas.old canvas.new [] (glyph_at grid.now font code pos.now width) f) }
+    ensures stops { IfErr result (λ f. C.refuses canvas.old canvas.new [] (glyph_at grid.now font code pos.now wide.now.width) f) }
 {
-    let mark = grid.glyph(font, code, pos, width);
+    let mark = grid.glyph(font, code, pos, wide);
     canvas.glyph(&mark)
 }

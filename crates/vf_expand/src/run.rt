@@ -13,6 +13,7 @@ ghost use Rattle.vf_expand.specs.Commands.{special_size};
 ghost use Rattle.vf_expand.specs.Pages.{chars};
 ghost use Rattle.vf_expand.specs.Marks.{marks_alone};
 ghost use Rattle.vf_expand.specs.Painted.{HasGlyph};
+ghost use Rattle.vf_expand.specs.Wide.{IsWide, AreMet};
 ghost use Rattle.vf_expand.specs.Turn.{turned, turn_marks, open_at};
 ghost use Rattle.vf_expand.specs.Takes.{Took, TookPage, TookChar, FollowsTurn, Stops, char_marks};
 ghost use Rattle.vf_expand.specs.Homes.{first_of, spot_of, scope_in, program_in, meaning_in, marks_in, count_in, IsGiven, IsFont, IsReady, IsTurnReady, IsCharReady};
@@ -20,6 +21,8 @@ ghost use Rattle.vf_expand.specs.Causes.{IsCause, IsTurnCause, IsMany, inside};
 ghost use Rattle.vf_expand.specs.Shallow.{FindsRoom, PacketFinds, IsShallow};
 
 use crate::fault::{Halt, WalkFault};
+use crate::glyphs::Glyphs;
+use crate::grid::Wide;
 use crate::home::{Frame, Home, inner};
 use crate::paint::put_glyph;
 use crate::plain::plain;
@@ -34,11 +37,12 @@ pub const MOST_OPEN: usize = 1_000;
 /// How many commands may be met.
 const MOST_STEPS: u64 = 50_000_000;
 
-/// The places of the open pushes of all frames, and how many commands were met.
+/// The places of the open pushes of all frames, how many commands were met, and widths of glyphs.
 #[derive(Drop)]
 pub struct Run {
     pub saved: Vec<Pos>,
     pub steps: u64,
+    pub glyphs: Glyphs,
     ghost room: { 1000 ≤ vec_capacity saved },
     ghost most: { vec_len saved ≤ 1000 },
     ghost few: { steps ≤ 50000000 },
@@ -62,7 +66,11 @@ impl Run {
         ensures { IfOk result (λ run. (run.saved.items ≡ []) × (run.steps ≡ 0)) }
     {
         let saved = Vec::with_capacity(alloc, MOST_OPEN)?;
-        Ok(Run { saved, steps: 0 })
+        Ok(Run {
+            saved,
+            steps: 0,
+            glyphs: Glyphs::new(alloc)?,
+        })
     }
 
     /// Walks over a frame that begins at a place.
@@ -78,6 +86,7 @@ impl Run {
         requires base { frame.now.base ≡ vec_len self.old.saved }
         requires short { first_of frame.now.home + length bytes.now < 2 ^ 31 }
         requires ready { (cs : List Placed) × Lexes (first_of frame.now.home) bytes.now cs × AllInner cs × IsReady C.can frame.now canvas.old cs start }
+        requires met { AreMet frame.now.grid frame.now.fonts.now self.old.glyphs.met.items }
         ensures ok { (cs : List Placed) → Lexes (first_of frame.now.home) bytes.now cs → OnOk result (TookPage (Took (HasGlyph frame.now.grid frame.now.fonts.now) C.takes) canvas.old canvas.new (marks_in frame.now cs start)) }
         ensures stops { (cs : List Placed) → Lexes (first_of frame.now.home) bytes.now cs → IfErr result (Stops C.takes C.refuses canvas.old canvas.new (marks_alone (marks_in frame.now cs start))) }
         ensures cause { (cs : List Placed) → Lexes (first_of frame.now.home) bytes.now cs → IfErr result (IsCause frame.now.grid frame.now.fonts.now frame.now.nest (program_in frame.now cs) start (λ at. spot_of frame.now.home at) (first_of frame.now.home + length bytes.now) frame.now.base) }
@@ -85,6 +94,7 @@ impl Run {
         ensures many { (cs : List Placed) → Lexes (first_of frame.now.home) bytes.now cs → IfErr result (IsMany (self.old.steps + count_in frame.now cs)) }
         ensures room { (cs : List Placed) → Lexes (first_of frame.now.home) bytes.now cs → OnOk result (IsShallow frame.now.grid frame.now.fonts.now frame.now.nest (program_in frame.now cs) start frame.now.base) }
         ensures stack { OnOk result (self.new.saved.items ≡ self.old.saved.items) }
+        ensures met { OnOk result (AreMet frame.now.grid frame.now.fonts.now self.new.glyphs.met.items) }
         ensures same { OnOk result (SameCondition C.can canvas.old canvas.new) }
     {
         one_spelling();
@@ -109,7 +119,9 @@ impl Run {
     }
 
     /// Does one command; `spot` is where it stands.
+    // Where the loop stands, so that its state stays in registers.
     #[cycle(frames)]
+    #[inline(always)]
     fn turn<C: Canvas>(
         &mut self,
         frame: &Frame<'_>,
@@ -125,6 +137,7 @@ impl Run {
         requires inner { IsInner (view cmd.now) }
         requires short { special_size (view cmd.now) < 2 ^ 31 }
         requires ready { IsTurnReady C.can frame.now canvas.old (view cmd.now) font.old (turn_marks (turned (meaning_in frame.now) (view cmd.now) (open_at frame.now.base self.old.saved.items) (record { place = pos.old; font = font.old }))) }
+        requires met { AreMet frame.now.grid frame.now.fonts.now self.old.glyphs.met.items }
         ensures ok { OnOk result (FollowsTurn (Took (HasGlyph frame.now.grid frame.now.fonts.now) C.takes) canvas.old canvas.new (open_at frame.now.base self.new.saved.items) (record { place = pos.new; font = font.new }) (turned (meaning_in frame.now) (view cmd.now) (open_at frame.now.base self.old.saved.items) (record { place = pos.old; font = font.old }))) }
         ensures stops { IfErr result (Stops C.takes C.refuses canvas.old canvas.new (turn_marks (turned (meaning_in frame.now) (view cmd.now) (open_at frame.now.base self.old.saved.items) (record { place = pos.old; font = font.old })))) }
         ensures cause { IfErr result (IsTurnCause (meaning_in frame.now) spot frame.now.base (inside frame.now.grid frame.now.fonts.now frame.now.nest (frame.now.base + length (open_at frame.now.base self.old.saved.items))) (view cmd.now) (open_at frame.now.base self.old.saved.items) (record { place = pos.old; font = font.old })) }
@@ -134,6 +147,7 @@ impl Run {
         ensures below { OnOk result (take frame.now.base self.new.saved.items ≡ take frame.now.base self.old.saved.items) }
         ensures base { OnOk result (frame.now.base ≤ vec_len self.new.saved) }
         ensures behind { OnOk result (font.new ≡ font_behind (select frame.now.fonts.now (scope_in frame.now)) font.old (view cmd.now)) }
+        ensures met { OnOk result (AreMet frame.now.grid frame.now.fonts.now self.new.glyphs.met.items) }
         ensures same { OnOk result (SameCondition C.can canvas.old canvas.new) }
     {
         if self.steps >= MOST_STEPS {
@@ -171,8 +185,8 @@ impl Run {
             },
             Cmd::Set(z) => {
                 let (id, code) = character(frame, *font, *z);
-                let width = self.show(frame, id, code, pos, canvas)?;
-                match frame.grid.past_char(pos, width) {
+                let wide = self.show(frame, id, code, pos, canvas)?;
+                match frame.grid.past_char(pos, &wide) {
                     Ok(()) => Ok(()),
                     Err(Passed) => Err(WalkFault::Overflow(spot)),
                 }
@@ -190,8 +204,9 @@ impl Run {
         }
     }
 
-    /// Shows a character at a place, and answers its width.
+    /// Shows a character at a place, and answers how wide it is.
     #[cycle(frames)]
+    #[inline(always)]
     fn show<C: Canvas>(
         &mut self,
         frame: &Frame<'_>,
@@ -199,41 +214,44 @@ impl Run {
         code: u8,
         here: &Pos,
         canvas: &mut C,
-    ) -> Result<i64, WalkFault<C::Fault>>
+    ) -> Result<Wide, WalkFault<C::Fault>>
         requires ready { IsCharReady C.can frame.now canvas.old (Some id) (pos code) (char_marks (chars frame.now.grid frame.now.fonts.now frame.now.nest (Some id) (pos code) here.now)) }
-        ensures ok { IfOk result (λ width. TookChar (Took (HasGlyph frame.now.grid frame.now.fonts.now) C.takes) canvas.old canvas.new width (chars frame.now.grid frame.now.fonts.now frame.now.nest (Some id) (pos code) here.now)) }
-        ensures bound { IfOk result (λ width. unsigned_abs width < 2 ^ 32) }
+        requires met { AreMet frame.now.grid frame.now.fonts.now self.old.glyphs.met.items }
+        ensures ok { IfOk result (λ wide. TookChar (Took (HasGlyph frame.now.grid frame.now.fonts.now) C.takes) canvas.old canvas.new wide.width (chars frame.now.grid frame.now.fonts.now frame.now.nest (Some id) (pos code) here.now)) }
+        ensures wide { IfOk result (λ wide. IsWide frame.now.grid wide) }
         ensures stops { IfErr result (Stops C.takes C.refuses canvas.old canvas.new (char_marks (chars frame.now.grid frame.now.fonts.now frame.now.nest (Some id) (pos code) here.now))) }
         ensures cause { IfErr result (inside frame.now.grid frame.now.fonts.now frame.now.nest (vec_len self.old.saved) (Some id) (pos code) here.now) }
         ensures steps { OnOk result (self.new.steps ≡ self.old.steps + runs frame.now.fonts.now frame.now.nest (Some id) (pos code)) }
         ensures many { IfErr result (IsMany (self.old.steps + runs frame.now.fonts.now frame.now.nest (Some id) (pos code))) }
         ensures room { OnOk result (PacketFinds frame.now.grid frame.now.fonts.now frame.now.nest (vec_len self.old.saved) (Some id) (pos code) here.now) }
         ensures stack { OnOk result (self.new.saved.items ≡ self.old.saved.items) }
+        ensures met { OnOk result (AreMet frame.now.grid frame.now.fonts.now self.new.glyphs.met.items) }
         ensures same { OnOk result (SameCondition C.can canvas.old canvas.new) }
     {
         one_reading();
+        if let Some(wide) = self.glyphs.find(&frame.grid, frame.fonts, id, code) {
+            return match put_glyph(&frame.grid, id, code, here, &wide, canvas) {
+                Ok(()) => Ok(wide),
+                Err(f) => Err(WalkFault::Canvas(f)),
+            };
+        }
         let Some(width) = frame.fonts.width(id, code) else {
             unreachable!()
         };
-        match frame.fonts.packet(id, code) {
-            None => match put_glyph(&frame.grid, id, code, here, width, canvas) {
-                Ok(()) => Ok(width),
-                Err(f) => Err(WalkFault::Canvas(f)),
-            },
-            Some(packet) => {
-                if frame.nest == 0 {
-                    return Err(WalkFault::NestDeep(id, code));
-                }
-                let nested = Frame {
-                    grid: frame.grid,
-                    fonts: frame.fonts,
-                    home: Home::Packet { font: id, code },
-                    nest: frame.nest - 1,
-                    base: self.saved.len(),
-                };
-                self.frame(&nested, packet, inner(here), canvas)?;
-                Ok(width)
-            }
+        let Some(packet) = frame.fonts.packet(id, code) else {
+            unreachable!()
+        };
+        if frame.nest == 0 {
+            return Err(WalkFault::NestDeep(id, code));
         }
+        let nested = Frame {
+            grid: frame.grid,
+            fonts: frame.fonts,
+            home: Home::Packet { font: id, code },
+            nest: frame.nest - 1,
+            base: self.saved.len(),
+        };
+        self.frame(&nested, packet, inner(here), canvas)?;
+        Ok(frame.grid.wide(width))
     }
 }

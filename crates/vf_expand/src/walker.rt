@@ -117,6 +117,7 @@ impl Walker {
             base: 0,
         };
         self.run.saved.clear();
+        self.run.glyphs.clear();
         self.run
             .frame(&frame, doc.body(page), Pos::origin(), canvas)
     }

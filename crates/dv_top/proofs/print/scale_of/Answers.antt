@@ -15,7 +15,7 @@ returns-in-Some-clause-units c = λ d is.
     let den : FitsSigned w64 c.from-2.result = search rules in
     let mag : FitsSigned w64 c.from-3.result = search rules in
     let dpi : FitsSigned w64 c.from-4.result = search rules in
-    let same = units_read c.one_document.ensures c.args.doc.now d (head_view c.head-head.result) c.args.dpi _ _ _ _ c.requires.read is c.head-head.ensures
+    let same = units_read c.one_document.ensures c.args.doc.now d (head_view c.head-head.result) c.args.dpi _ _ _ _ c.requires.read is c.head-head.ensures.value
     (to_z-of_z w64 c.from.result num ∙ c.from.ensures ∙ to_z-of_z w32 c.head-head.result.num num_small) (to_z-of_z w64 c.from-2.result den ∙ c.from-2.ensures ∙ to_z-of_z w32 c.head-head.result.den den_small)
     (to_z-of_z w64 c.from-3.result mag ∙ c.from-3.ensures ∙ to_z-of_z w32 c.head-head.result.mag mag_small) (to_z-of_z w64 c.from-4.result dpi ∙ c.from-4.ensures) in
     (same, search rules)
@@ -32,7 +32,7 @@ returns-in-None-clause-cause c = λ d is.
     let den : FitsSigned w64 c.from-2.result = search rules in
     let mag : FitsSigned w64 c.from-3.result = search rules in
     let dpi : FitsSigned w64 c.from-4.result = search rules in
-    let same = units_read c.one_document.ensures c.args.doc.now d (head_view c.head-head.result) c.args.dpi _ _ _ _ c.requires.read is c.head-head.ensures
+    let same = units_read c.one_document.ensures c.args.doc.now d (head_view c.head-head.result) c.args.dpi _ _ _ _ c.requires.read is c.head-head.ensures.value
     (to_z-of_z w64 c.from.result num ∙ c.from.ensures ∙ to_z-of_z w32 c.head-head.result.num num_small) (to_z-of_z w64 c.from-2.result den ∙ c.from-2.ensures ∙ to_z-of_z w32 c.head-head.result.den den_small)
     (to_z-of_z w64 c.from-3.result mag ∙ c.from-3.ensures ∙ to_z-of_z w32 c.head-head.result.mag mag_small) (to_z-of_z w64 c.from-4.result dpi ∙ c.from-4.ensures) in
     (_, refl, same, search rules)

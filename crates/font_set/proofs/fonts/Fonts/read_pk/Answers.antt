@@ -23,7 +23,7 @@ returns g c =
             names = found.candidate;
             bytes = c.in_ok-name.bytes.items;
             held = found.held;
-            first = record { wanted = c.requires.wanted; held = found.first };
+            first = record { wanted = c.requires.wanted; real = c.requires.real; held = found.first };
             fault = subst (λ (n : ℕ). PkFaultIs c.in_ok-name.bytes.items n c.in-Err.fault) room says;
             ours = ours;
             bad = bad;

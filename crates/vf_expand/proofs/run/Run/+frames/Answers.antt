@@ -1,4 +1,4 @@
-use Rattle.std.proofs.Common.{◌≡◌, ◌≤◌, ◌<◌, ◌+◌, ◌-◌, ◌*◌, ◌∙◌, ℤ, pos, List, [], ◌∷◌, ◌++◌, length, take, drop, Option, Some, None, refl, sym, ap, subst, suc, ℕ, arith, rules, inl, inr, FitsSigned, w64, to_z, of_z}
+use Rattle.std.proofs.Common.{◌≡◌, ◌<◌, ◌+◌, ◌-◌, ◌∙◌, pos, List, [], ◌∷◌, length, take, drop, Option, Some, None, refl, sym, ap, subst, ℕ, arith, rules, inl, inr, FitsSigned, w64}
 use Rattle.std.specs.Prelude.{vec_len}
 use Rattle.std.proofs.lemmas.Int.{to_z-of_z}
 use Rattle.vf_expand.specs.Marks.{Outcome, step}
@@ -8,16 +8,15 @@ use Rattle.std.proofs.Math.Seq.{take-length}
 use Rattle.std.proofs.Math.ListN.{drop_of_length-le}
 use Rattle.std.proofs.lemmas.Result.{err_from_is_err_and}
 use Rattle.dvi_ops.specs.View.{view}
-use Rattle.dvi_ops.specs.Placed.{Placed, Lexes}
-use Rattle.positions.specs.Place.{Place}
+use Rattle.dvi_ops.specs.Placed.{Lexes}
 use Rattle.positions.specs.Mark.{Mark}
-use Rattle.font_set.specs.Programs.{id_of, select, first_font}
+use Rattle.font_set.specs.Programs.{select}
 use Rattle.font_set.specs.Frames.{acts_of_command}
 use Rattle.vf_expand.specs.Painted.{HasGlyph, IsPainted}
 use Rattle.font_set.specs.Count.{runs, count_from}
 use Rattle.vf_expand.specs.Grid.{State}
 use Rattle.vf_expand.specs.Turn.{open_at, turned, turn_marks}
-use Rattle.vf_expand.specs.Marks.{prepend, marks_alone, marks_of}
+use Rattle.vf_expand.specs.Marks.{marks_alone}
 use Rattle.vf_expand.specs.Pages.{start_in}
 use Rattle.vf_expand.specs.Homes.{first_of, spot_of, scope_in, program_in, meaning_in, bare_in, marks_in, acts_in, count_in}
 use Rattle.vf_expand.specs.Causes.{inside, IsCause, IsHaltCause}
@@ -27,13 +26,13 @@ use Rattle.vf_expand.proofs.Bytes.{start_room, more_room, room_all, finish, lexe
 use Rattle.vf_expand.proofs.Sizes.{special_in_range}
 use Rattle.vf_expand.proofs.Covering.{ahead_start, ahead_next, painted_more}
 use Rattle.vf_expand.proofs.Coming.{took_both, char_alone, follows_more}
-use Rattle.font_set.specs.Fonts.{width_at, packet_at}
+use Rattle.font_set.specs.Fonts.{width_at}
 use Rattle.font_set.specs.Frames.{char_act}
 use Rattle.vf_expand.specs.Pages.{chars, glyph_at, inner, frame_marks}
 use Rattle.vf_expand.specs.Takes.{char_marks}
 use Rattle.vf_expand.proofs.Chars.{program_none, font_given, covered_char, width_there, chars_real, can_glyph, is_set, has_glyph, took_real, refused_real, runs_real, packet_home, packet_ready, all_inner, over_packet, took_packet}
 use Rattle.vf_expand.proofs.Packets.{packet, nested, nested_cause, refused_inside, packet_cause}
-use Rattle.vf_expand.proofs.Turns.{plain_view, plain_bracket, plain_turn, plain_passed, plain_refused, set_turn, put_turn, covers_set_turn, covers_put_turn, overflowed, passes_set, fnt_turn, selects, same_step, set_ready, put_ready, ready_at, took_back, back, same_passes}
+use Rattle.vf_expand.proofs.Turns.{plain_view, plain_bracket, plain_turn, plain_passed, plain_refused, set_turn, put_turn, covers_set_turn, covers_put_turn, overflowed, fnt_turn, selects, same_step, set_ready, put_ready, ready_at, took_back, back, same_passes}
 use Rattle.vf_expand.proofs.Counting.{count_on, count_part, many_on, one_step, same_font}
 use Rattle.vf_expand.proofs.Stopping.{can_on, covers_next, stop_on, cause_next, none_left, same_start, same_chain, can_later, can_nothing, plain_marks}
 use Rattle.vf_expand.specs.Shallow.{PacketFinds}
@@ -54,6 +53,7 @@ frame-loop-at-init g t c =
       higher = omega (arith, c.requires.base);
       below = ap (λ n. take n items) is ∙ take-length items;
       same = same_start g.C.Canvas.can c.args.canvas.now;
+      met = c.requires.met;
       ahead = (r.0, r.1, r.3, ahead_start set (program_in f r.0) c.args.bytes.now (from + 0) c.first-font.result (subst (λ (k : ℕ). Lexes k c.args.bytes.now r.0) at r.1) r.2 r.3.0 (c.first-font.ensures r.0));
       counted = λ cs l. (cs, subst (λ (k : ℕ). Lexes k c.args.bytes.now cs) at l, ap (λ (o : Option ℕ). c.args.self.now.steps + count_from set f.nest (scope_in f) o cs) (c.first-font.ensures cs));
       goes = λ cs l.
@@ -78,6 +78,7 @@ frame-loop-at-preserved g t c =
       higher = omega (arith, e.base);
       below = e.below ∙ inv.below;
       same = same_chain g.C.Canvas.can c.args.canvas.now c.loop-at.canvas c.turn.new.canvas inv.same e.same;
+      met = e.met;
       ahead = (a.0, a.1, a.2, rw e.behind x.left);
       counted = λ cs l.
           let q = inv.counted cs l in
@@ -176,6 +177,15 @@ frame-returns-else-len-frame-clause-cause g t c = λ cs l.
 
 -- ---- characters
 
+pub show-find-requires-clause-given : goal.show-find-requires-clause-given
+show-find-requires-clause-given g t c = font_given c.args.frame.now.fonts.now c.requires.ready.sel (Some c.args.id) c.requires.ready.same
+
+pub show-find-requires-clause-there : goal.show-find-requires-clause-there
+show-find-requires-clause-there g t c =
+    let r = c.requires.ready in
+    let k = covered_char c.args.frame.now.fonts.now r.sel c.args.id c.args.code r.same r.covers in
+    width_there c.args.frame.now.fonts.now c.args.id c.args.code k.shown
+
 pub show-width-requires : goal.show-width-requires
 show-width-requires g t c =
     let r = c.requires.ready in
@@ -191,19 +201,19 @@ show-unreachable-requires g t c =
     let set = c.args.frame.now.fonts.now in
     let r = c.requires.ready in
     let k = covered_char set r.sel c.args.id c.args.code r.same r.covers in
-    width_there set c.args.id c.args.code k.shown (sym c.width.ensures.value ∙ c.in_default.is)
+    let none : width_at set c.args.id c.args.code ≡ None = cc in
+    width_there set c.args.id c.args.code k.shown none
 
 pub show-put_glyph-requires-clause-can : goal.show-put_glyph-requires-clause-can
 show-put_glyph-requires-clause-can g t c =
-    let fits : FitsSigned w64 c.in-Some.width = search rules in
     let f = c.args.frame.now in
     let set = f.fonts.now in
     let r = c.requires.ready in
     let k = covered_char set r.sel c.args.id c.args.code r.same r.covers in
-    let w : width_at set c.args.id c.args.code ≡ Some c.in-Some.width = sym c.width.ensures.value ∙ c.in-Some.is in
-    let none : packet_at set c.args.id c.args.code ≡ None = search rules in
-    rw (to_z-of_z w64 c.in-Some.width fits) (λ m. can_glyph g.C.Canvas.can c.args.canvas.now (IsPainted f.grid set (char_act r.sel (pos c.args.code) ∷ [])) (chars f.grid set f.nest (Some c.args.id) (pos c.args.code) c.args.here.now) (glyph_at f.grid c.args.id c.args.code c.args.here.now c.in-Some.width) c.in-Some.width
-    (chars_real f.grid set f.nest c.args.id c.args.code c.args.here.now c.in-Some.width k.shown none w) r.can_take (m, (is_set set r.sel c.args.id c.args.code k, has_glyph f.grid set r.sel c.args.id c.args.code c.args.here.now c.in-Some.width k none w)))
+    let w : width_at set c.args.id c.args.code ≡ Some c.in-Some.wide.width = c.in-Some.ensures.value.width in
+    let none = c.in-Some.ensures.value.real in
+    (λ m. can_glyph g.C.Canvas.can c.args.canvas.now (IsPainted f.grid set (char_act r.sel (pos c.args.code) ∷ [])) (chars f.grid set f.nest (Some c.args.id) (pos c.args.code) c.args.here.now) (glyph_at f.grid c.args.id c.args.code c.args.here.now c.in-Some.wide.width) c.in-Some.wide.width
+    (chars_real f.grid set f.nest c.args.id c.args.code c.args.here.now c.in-Some.wide.width k.shown none w) r.can_take (m, (is_set set r.sel c.args.id c.args.code k, has_glyph f.grid set r.sel c.args.id c.args.code c.args.here.now c.in-Some.wide.width k none w)))
 
 pub show-returns-in-Ok-clause-ok : goal.show-returns-in-Ok-clause-ok
 show-returns-in-Ok-clause-ok g t c =
@@ -211,18 +221,17 @@ show-returns-in-Ok-clause-ok g t c =
     let set = f.fonts.now in
     let r = c.requires.ready in
     let k = covered_char set r.sel c.args.id c.args.code r.same r.covers in
-    let w : width_at set c.args.id c.args.code ≡ Some c.in-Some.width = sym c.width.ensures.value ∙ c.in-Some.is in
-    let none : packet_at set c.args.id c.args.code ≡ None = search rules in
-    let fits : FitsSigned w64 c.in-Some.width = search rules in
-    rw (to_z-of_z w64 c.in-Some.width fits) (took_real (Took (HasGlyph c.args.frame.now.grid c.args.frame.now.fonts.now) g.C.Canvas.takes) c.args.canvas.now c.put_glyph.new.canvas (chars f.grid set f.nest (Some c.args.id) (pos c.args.code) c.args.here.now) (glyph_at f.grid c.args.id c.args.code c.args.here.now c.in-Some.width) c.in-Some.width
-    (chars_real f.grid set f.nest c.args.id c.args.code c.args.here.now c.in-Some.width k.shown none w) (let h = rw (to_z-of_z w64 c.in-Some.width fits) at c.in-Ok.ensures.ok in let m = rw (to_z-of_z w64 c.in-Some.width fits) at c.in-Ok.ensures.fit in (h, ((m, has_glyph f.grid set r.sel c.args.id c.args.code c.args.here.now c.in-Some.width k none w), tt))))
+    let w : width_at set c.args.id c.args.code ≡ Some c.in-Some.wide.width = c.in-Some.ensures.value.width in
+    let none = c.in-Some.ensures.value.real in
+    (took_real (Took (HasGlyph c.args.frame.now.grid c.args.frame.now.fonts.now) g.C.Canvas.takes) c.args.canvas.now c.put_glyph.new.canvas (chars f.grid set f.nest (Some c.args.id) (pos c.args.code) c.args.here.now) (glyph_at f.grid c.args.id c.args.code c.args.here.now c.in-Some.wide.width) c.in-Some.wide.width
+    (chars_real f.grid set f.nest c.args.id c.args.code c.args.here.now c.in-Some.wide.width k.shown none w) (c.in-Ok.ensures.ok, ((c.in-Ok.ensures.fit, has_glyph f.grid set r.sel c.args.id c.args.code c.args.here.now c.in-Some.wide.width k none w), tt)))
 
 pub show-returns-in-Ok-clause-steps : goal.show-returns-in-Ok-clause-steps
 show-returns-in-Ok-clause-steps g t c =
     let set = c.args.frame.now.fonts.now in
     let r = c.requires.ready in
     let k = covered_char set r.sel c.args.id c.args.code r.same r.covers in
-    let none : packet_at set c.args.id c.args.code ≡ None = search rules in
+    let none = c.in-Some.ensures.value.real in
     let zero = runs_real set c.args.frame.now.nest c.args.id c.args.code k.shown none in
     omega (arith, zero)
 
@@ -232,10 +241,10 @@ show-returns-in-Err-clause-stops g t c =
     let set = f.fonts.now in
     let r = c.requires.ready in
     let k = covered_char set r.sel c.args.id c.args.code r.same r.covers in
-    let w : width_at set c.args.id c.args.code ≡ Some c.in-Some.width = sym c.width.ensures.value ∙ c.in-Some.is in
-    let none : packet_at set c.args.id c.args.code ≡ None = search rules in
-    refused_real g.C.Canvas.takes g.C.Canvas.refuses c.args.canvas.now c.put_glyph.new.canvas (chars f.grid set f.nest (Some c.args.id) (pos c.args.code) c.args.here.now) (glyph_at f.grid c.args.id c.args.code c.args.here.now c.in-Some.width) c.in-Some.width c.in-Err.f
-    (chars_real f.grid set f.nest c.args.id c.args.code c.args.here.now c.in-Some.width k.shown none w) (let fits : FitsSigned w64 c.in-Some.width = search rules in let h = rw (to_z-of_z w64 c.in-Some.width fits) at c.in-Err.ensures.stops in h)
+    let w : width_at set c.args.id c.args.code ≡ Some c.in-Some.wide.width = c.in-Some.ensures.value.width in
+    let none = c.in-Some.ensures.value.real in
+    refused_real g.C.Canvas.takes g.C.Canvas.refuses c.args.canvas.now c.put_glyph.new.canvas (chars f.grid set f.nest (Some c.args.id) (pos c.args.code) c.args.here.now) (glyph_at f.grid c.args.id c.args.code c.args.here.now c.in-Some.wide.width) c.in-Some.wide.width c.in-Err.f
+    (chars_real f.grid set f.nest c.args.id c.args.code c.args.here.now c.in-Some.wide.width k.shown none w) c.in-Err.ensures.stops
 
 pub show-returns-in-Err-clause-cause : goal.show-returns-in-Err-clause-cause
 show-returns-in-Err-clause-cause g t c =
@@ -246,8 +255,8 @@ pub show-returns-then-frame-eq0-clause-stops : goal.show-returns-then-frame-eq0-
 show-returns-then-frame-eq0-clause-stops g t c =
     let f = c.args.frame.now in
     let b = c.in-Some-packet.ensures in
-    let w : width_at f.fonts.now c.args.id c.args.code ≡ Some c.in-Some.width = sym c.width.ensures.value ∙ c.in-Some.is in (
-      ap char_marks (nested c.one_reading.ensures f.grid f.fonts.now c.args.id c.args.code c.args.here.now f.nest c.in-Some.width c.in-Some-packet.packet.now b.commands.commands b.value b.commands.spelled w c.if-frame-eq0.true),
+    let w : width_at f.fonts.now c.args.id c.args.code ≡ Some c.in-Some-width.width = sym c.width.ensures.value ∙ c.in-Some-width.is in (
+      ap char_marks (nested c.one_reading.ensures f.grid f.fonts.now c.args.id c.args.code c.args.here.now f.nest c.in-Some-width.width c.in-Some-packet.packet.now b.commands.commands b.value b.commands.spelled w c.if-frame-eq0.true),
       ([], g.met.C.Canvas.starts c.args.canvas.now),
     )
 
@@ -306,16 +315,19 @@ frame-turn-requires g t c κs within =
                   x.inner,
                   (
                     omega (arith, size, c.requires.short),
-                    record {
-                      sel = x.sel;
-                      same = x.same;
-                      covers = x.covers;
-                      can_take =
-                          can_on g.C.Canvas.can c.loop-at.canvas (IsPainted f.grid f.fonts.now few) (IsPainted f.grid f.fonts.now (acts_in f a.0)) (painted_more f.grid f.fonts.now few (acts_in f a.0) x.wider) go.taken
-                          (turn_marks (turned (meaning_in f) (view c.in-Ok.cmd) os here)) (marks_alone (marks_in f a.0 c.args.start))
-                          (covers_next (Took (HasGlyph c.args.frame.now.grid c.args.frame.now.fonts.now) g.C.Canvas.takes) (meaning_in f) (start_in f.fonts.now (program_in f a.0) c.args.start) a.0 (drop c.loop-at.at c.args.bytes.now) (first_of f.home + c.loop-at.at) c.args.canvas.now c.loop-at.canvas os here go n.0 n.1 (view c.in-Ok.cmd) n.2 n.3)
-                          (can_later g.C.Canvas.can (IsPainted f.grid f.fonts.now (acts_in f a.0)) c.args.canvas.now c.loop-at.canvas (marks_alone (marks_in f a.0 c.args.start)) c.loop-at.invariant.same a.2.1);
-                    },
+                    (
+                      record {
+                        sel = x.sel;
+                        same = x.same;
+                        covers = x.covers;
+                        can_take =
+                            can_on g.C.Canvas.can c.loop-at.canvas (IsPainted f.grid f.fonts.now few) (IsPainted f.grid f.fonts.now (acts_in f a.0)) (painted_more f.grid f.fonts.now few (acts_in f a.0) x.wider) go.taken
+                            (turn_marks (turned (meaning_in f) (view c.in-Ok.cmd) os here)) (marks_alone (marks_in f a.0 c.args.start))
+                            (covers_next (Took (HasGlyph c.args.frame.now.grid c.args.frame.now.fonts.now) g.C.Canvas.takes) (meaning_in f) (start_in f.fonts.now (program_in f a.0) c.args.start) a.0 (drop c.loop-at.at c.args.bytes.now) (first_of f.home + c.loop-at.at) c.args.canvas.now c.loop-at.canvas os here go n.0 n.1 (view c.in-Ok.cmd) n.2 n.3)
+                            (can_later g.C.Canvas.can (IsPainted f.grid f.fonts.now (acts_in f a.0)) c.args.canvas.now c.loop-at.canvas (marks_alone (marks_in f a.0 c.args.start)) c.loop-at.invariant.same a.2.1);
+                      },
+                      c.loop-at.invariant.met,
+                    ),
                   ),
                 ),
               ),
@@ -332,10 +344,10 @@ show-frame-requires g t c κs within =
     let r = c.requires.ready in
     let b = c.in-Some-packet.ensures in
     let cs = b.commands.commands in
-    let w : width_at set c.args.id c.args.code ≡ Some c.in-Some.width = sym c.width.ensures.value ∙ c.in-Some.is in
+    let w : width_at set c.args.id c.args.code ≡ Some c.in-Some-width.width = sym c.width.ensures.value ∙ c.in-Some-width.is in
     let k = covered_char set r.sel c.args.id c.args.code r.same r.covers in
-    let p = packet c.one_reading.ensures f.grid set r.sel c.args.id c.args.code c.args.here.now f.nest c.in-Some.width c.in-Some-packet.packet.now cs k r.covers b.value b.commands.spelled w (omega arith) in
-    let ready = packet_ready g.C.Canvas.can c.args.canvas.now f.grid set r.sel c.args.id c.args.code k (packet_home set c.args.id cs) p.there r.covers (chars f.grid set f.nest (Some c.args.id) (pos c.args.code) c.args.here.now) c.in-Some.width (frame_marks f.grid set (f.nest - 1) (packet_home set c.args.id cs) (inner c.args.here.now)) p.same r.can_take in (
+    let p = packet c.one_reading.ensures f.grid set r.sel c.args.id c.args.code c.args.here.now f.nest c.in-Some-width.width c.in-Some-packet.packet.now cs k r.covers b.value b.commands.spelled w (omega arith) in
+    let ready = packet_ready g.C.Canvas.can c.args.canvas.now f.grid set r.sel c.args.id c.args.code k (packet_home set c.args.id cs) p.there r.covers (chars f.grid set f.nest (Some c.args.id) (pos c.args.code) c.args.here.now) c.in-Some-width.width (frame_marks f.grid set (f.nest - 1) (packet_home set c.args.id cs) (inner c.args.here.now)) p.same r.can_take in (
       search rules,
       (
         within.0,
@@ -347,7 +359,7 @@ show-frame-requires g t c κs within =
               search rules,
               (
                 omega (arith, b.short),
-                (cs, b.commands.spelled, all_inner cs b.commands.allowed, rw c.inner.ensures ready),
+                ((cs, b.commands.spelled, all_inner cs b.commands.allowed, rw c.inner.ensures ready), c.find.ensures.met),
               ),
             ),
           ),
@@ -355,82 +367,83 @@ show-frame-requires g t c κs within =
       ),
     )
 
-pub show-returns-in_err-frame-in-Some-packet-clause-stops : goal.show-returns-in_err-frame-in-Some-packet-clause-stops
-show-returns-in_err-frame-in-Some-packet-clause-stops g t c =
+pub show-returns-in_err-frame-clause-stops : goal.show-returns-in_err-frame-clause-stops
+show-returns-in_err-frame-clause-stops g t c =
     let f = c.args.frame.now in
     let set = f.fonts.now in
     let r = c.requires.ready in
     let b = c.in-Some-packet.ensures in
     let cs = b.commands.commands in
-    let w : width_at set c.args.id c.args.code ≡ Some c.in-Some.width = sym c.width.ensures.value ∙ c.in-Some.is in
+    let w : width_at set c.args.id c.args.code ≡ Some c.in-Some-width.width = sym c.width.ensures.value ∙ c.in-Some-width.is in
     let k = covered_char set r.sel c.args.id c.args.code r.same r.covers in
-    let p = packet c.one_reading.ensures f.grid set r.sel c.args.id c.args.code c.args.here.now f.nest c.in-Some.width c.in-Some-packet.packet.now cs k r.covers b.value b.commands.spelled w (omega arith) in
+    let p = packet c.one_reading.ensures f.grid set r.sel c.args.id c.args.code c.args.here.now f.nest c.in-Some-width.width c.in-Some-packet.packet.now cs k r.covers b.value b.commands.spelled w (omega arith) in
     let o = chars f.grid set f.nest (Some c.args.id) (pos c.args.code) c.args.here.now in
     let m = frame_marks f.grid set (f.nest - 1) (packet_home set c.args.id cs) (inner c.args.here.now) in
     let q = err_from_is_err_and c.from_residual.result c.from_residual.ensures.1 in
-    let h = rw c.inner.ensures at (c.in_err-frame-in-Some-packet.ensures.stops cs b.commands.spelled) in
-    rw (q.1, q.2) (stop_on g.C.Canvas.takes g.C.Canvas.refuses g.met.C.Canvas.chains g.met.C.Canvas.refused_later c.args.canvas.now c.args.canvas.now c.frame.new.canvas [] (g.met.C.Canvas.starts c.args.canvas.now) (marks_alone m) (char_marks o) (over_packet o c.in-Some.width m p.same) _ h)
+    let h = rw c.inner.ensures at (c.in_err-frame.ensures.stops cs b.commands.spelled) in
+    rw (q.1, q.2) (stop_on g.C.Canvas.takes g.C.Canvas.refuses g.met.C.Canvas.chains g.met.C.Canvas.refused_later c.args.canvas.now c.args.canvas.now c.frame.new.canvas [] (g.met.C.Canvas.starts c.args.canvas.now) (marks_alone m) (char_marks o) (over_packet o c.in-Some-width.width m p.same) _ h)
 
-pub show-returns-in_err-frame-in-Some-packet-clause-cause : goal.show-returns-in_err-frame-in-Some-packet-clause-cause
-show-returns-in_err-frame-in-Some-packet-clause-cause g t c =
+pub show-returns-in_err-frame-clause-cause : goal.show-returns-in_err-frame-clause-cause
+show-returns-in_err-frame-clause-cause g t c =
     let f = c.args.frame.now in
     let set = f.fonts.now in
     let r = c.requires.ready in
     let b = c.in-Some-packet.ensures in
     let cs = b.commands.commands in
-    let w : width_at set c.args.id c.args.code ≡ Some c.in-Some.width = sym c.width.ensures.value ∙ c.in-Some.is in
+    let w : width_at set c.args.id c.args.code ≡ Some c.in-Some-width.width = sym c.width.ensures.value ∙ c.in-Some-width.is in
     let k = covered_char set r.sel c.args.id c.args.code r.same r.covers in
-    let p = packet c.one_reading.ensures f.grid set r.sel c.args.id c.args.code c.args.here.now f.nest c.in-Some.width c.in-Some-packet.packet.now cs k r.covers b.value b.commands.spelled w (omega arith) in
+    let p = packet c.one_reading.ensures f.grid set r.sel c.args.id c.args.code c.args.here.now f.nest c.in-Some-width.width c.in-Some-packet.packet.now cs k r.covers b.value b.commands.spelled w (omega arith) in
     let o = chars f.grid set f.nest (Some c.args.id) (pos c.args.code) c.args.here.now in
     let m = frame_marks f.grid set (f.nest - 1) (packet_home set c.args.id cs) (inner c.args.here.now) in
     let q = err_from_is_err_and c.from_residual.result c.from_residual.ensures.1 in
-    let h = rw c.inner.ensures at (c.in_err-frame-in-Some-packet.ensures.cause cs b.commands.spelled) in
-    rw (q.1, q.2) (packet_cause f.grid set c.args.id c.args.code c.args.here.now f.nest (vec_len c.args.self.now.saved) c.in-Some-packet.packet.now cs _ (omega arith) b.value p.there (let n : c.len.result ≡ vec_len c.args.self.now.saved = omega arith in let j = rw n at h in let z : 0 + length c.in-Some-packet.packet.now ≡ length c.in-Some-packet.packet.now = omega arith in subst (λ (x : ℕ). IsCause {F = g.row.C-Fault.Denot} f.grid set (f.nest - 1) (packet_home set c.args.id cs) (inner c.args.here.now) (λ at. spot.Packet c.args.id c.args.code at) x (vec_len c.args.self.now.saved) c.in_err-frame-in-Some-packet.field-0.0) z j))
+    let h = rw c.inner.ensures at (c.in_err-frame.ensures.cause cs b.commands.spelled) in
+    rw (q.1, q.2) (packet_cause f.grid set c.args.id c.args.code c.args.here.now f.nest (vec_len c.args.self.now.saved) c.in-Some-packet.packet.now cs _ (omega arith) b.value p.there (let n : c.len.result ≡ vec_len c.args.self.now.saved = omega arith in let j = rw n at h in let z : 0 + length c.in-Some-packet.packet.now ≡ length c.in-Some-packet.packet.now = omega arith in subst (λ (x : ℕ). IsCause {F = g.row.C-Fault.Denot} f.grid set (f.nest - 1) (packet_home set c.args.id cs) (inner c.args.here.now) (λ at. spot.Packet c.args.id c.args.code at) x (vec_len c.args.self.now.saved) c.in_err-frame.field-0.0) z j))
 
-pub show-returns-in_err-frame-in-Some-packet-clause-many : goal.show-returns-in_err-frame-in-Some-packet-clause-many
-show-returns-in_err-frame-in-Some-packet-clause-many g t c =
+pub show-returns-in_err-frame-clause-many : goal.show-returns-in_err-frame-clause-many
+show-returns-in_err-frame-clause-many g t c =
     let f = c.args.frame.now in
     let set = f.fonts.now in
     let r = c.requires.ready in
     let b = c.in-Some-packet.ensures in
     let cs = b.commands.commands in
-    let w : width_at set c.args.id c.args.code ≡ Some c.in-Some.width = sym c.width.ensures.value ∙ c.in-Some.is in
+    let w : width_at set c.args.id c.args.code ≡ Some c.in-Some-width.width = sym c.width.ensures.value ∙ c.in-Some-width.is in
     let k = covered_char set r.sel c.args.id c.args.code r.same r.covers in
-    let p = packet c.one_reading.ensures f.grid set r.sel c.args.id c.args.code c.args.here.now f.nest c.in-Some.width c.in-Some-packet.packet.now cs k r.covers b.value b.commands.spelled w (omega arith) in
+    let p = packet c.one_reading.ensures f.grid set r.sel c.args.id c.args.code c.args.here.now f.nest c.in-Some-width.width c.in-Some-packet.packet.now cs k r.covers b.value b.commands.spelled w (omega arith) in
     let o = chars f.grid set f.nest (Some c.args.id) (pos c.args.code) c.args.here.now in
     let m = frame_marks f.grid set (f.nest - 1) (packet_home set c.args.id cs) (inner c.args.here.now) in
     let q = err_from_is_err_and c.from_residual.result c.from_residual.ensures.1 in
-    rw (q.1, q.2, p.counts) (c.in_err-frame-in-Some-packet.ensures.many cs b.commands.spelled)
+    rw (q.1, q.2, p.counts) (c.in_err-frame.ensures.many cs b.commands.spelled)
 
-pub show-returns-in_ok-frame-in-Some-packet-clause-ok : goal.show-returns-in_ok-frame-in-Some-packet-clause-ok
-show-returns-in_ok-frame-in-Some-packet-clause-ok g t c =
+pub show-returns-clause-ok : goal.show-returns-clause-ok
+show-returns-clause-ok g t c =
     let f = c.args.frame.now in
     let set = f.fonts.now in
     let r = c.requires.ready in
     let b = c.in-Some-packet.ensures in
     let cs = b.commands.commands in
-    let w : width_at set c.args.id c.args.code ≡ Some c.in-Some.width = sym c.width.ensures.value ∙ c.in-Some.is in
+    let w : width_at set c.args.id c.args.code ≡ Some c.in-Some-width.width = sym c.width.ensures.value ∙ c.in-Some-width.is in
     let k = covered_char set r.sel c.args.id c.args.code r.same r.covers in
-    let p = packet c.one_reading.ensures f.grid set r.sel c.args.id c.args.code c.args.here.now f.nest c.in-Some.width c.in-Some-packet.packet.now cs k r.covers b.value b.commands.spelled w (omega arith) in
+    let p = packet c.one_reading.ensures f.grid set r.sel c.args.id c.args.code c.args.here.now f.nest c.in-Some-width.width c.in-Some-packet.packet.now cs k r.covers b.value b.commands.spelled w (omega arith) in
     let o = chars f.grid set f.nest (Some c.args.id) (pos c.args.code) c.args.here.now in
     let m = frame_marks f.grid set (f.nest - 1) (packet_home set c.args.id cs) (inner c.args.here.now) in
-    let h = rw c.inner.ensures at (c.in_ok-frame-in-Some-packet.ensures.ok cs b.commands.spelled) in
-    let fits : FitsSigned w64 c.in-Some.width = search rules in
-    rw (to_z-of_z w64 c.in-Some.width fits) (took_packet (Took (HasGlyph c.args.frame.now.grid c.args.frame.now.fonts.now) g.C.Canvas.takes) c.args.canvas.now c.frame.new.canvas o c.in-Some.width m p.same h)
+    let h = rw c.inner.ensures at (c.in_ok-frame.ensures.ok cs b.commands.spelled) in
+    let fits : FitsSigned w64 c.in-Some-width.width = search rules in
+    let same : c.wide.result.width ≡ c.in-Some-width.width = c.wide.ensures.same ∙ to_z-of_z w64 c.in-Some-width.width fits in
+    rw same (took_packet (Took (HasGlyph c.args.frame.now.grid c.args.frame.now.fonts.now) g.C.Canvas.takes) c.args.canvas.now c.frame.new.canvas o c.in-Some-width.width m p.same h)
 
-pub show-returns-in_ok-frame-in-Some-packet-clause-steps : goal.show-returns-in_ok-frame-in-Some-packet-clause-steps
-show-returns-in_ok-frame-in-Some-packet-clause-steps g t c =
+pub show-returns-clause-steps : goal.show-returns-clause-steps
+show-returns-clause-steps g t c =
     let f = c.args.frame.now in
     let set = f.fonts.now in
     let r = c.requires.ready in
     let b = c.in-Some-packet.ensures in
     let cs = b.commands.commands in
-    let w : width_at set c.args.id c.args.code ≡ Some c.in-Some.width = sym c.width.ensures.value ∙ c.in-Some.is in
+    let w : width_at set c.args.id c.args.code ≡ Some c.in-Some-width.width = sym c.width.ensures.value ∙ c.in-Some-width.is in
     let k = covered_char set r.sel c.args.id c.args.code r.same r.covers in
-    let p = packet c.one_reading.ensures f.grid set r.sel c.args.id c.args.code c.args.here.now f.nest c.in-Some.width c.in-Some-packet.packet.now cs k r.covers b.value b.commands.spelled w (omega arith) in
+    let p = packet c.one_reading.ensures f.grid set r.sel c.args.id c.args.code c.args.here.now f.nest c.in-Some-width.width c.in-Some-packet.packet.now cs k r.covers b.value b.commands.spelled w (omega arith) in
     let o = chars f.grid set f.nest (Some c.args.id) (pos c.args.code) c.args.here.now in
     let m = frame_marks f.grid set (f.nest - 1) (packet_home set c.args.id cs) (inner c.args.here.now) in
-    rw p.counts (c.in_ok-frame-in-Some-packet.ensures.steps cs b.commands.spelled)
+    rw p.counts (c.in_ok-frame.ensures.steps cs b.commands.spelled)
 
 pub turn-unreachable-requires-in-None-select : goal.turn-unreachable-requires-in-None-select
 turn-unreachable-requires-in-None-select g t c =
@@ -449,10 +462,10 @@ turn-show-requires g t c κs within =
     let e = c.character-id.ensures in
     let h0 = e.code in
     let code : c.in-Set.z ≡ pos c.character-id.result.1 = grind (arith, to_z-of_z, h0) in
-    (search rules, (within.0, (within.1, ready_at g.C.Canvas.can f c.args.canvas.now c.args.font.now c.in-Set.z c.args.pos.now c.character-id.result.0 c.character-id.result.1 e.font code (set_ready g.C.Canvas.can f c.args.canvas.now c.in-Set.z (open_at f.base c.args.self.now.saved.items) here r))))
+    (search rules, (within.0, (within.1, (ready_at g.C.Canvas.can f c.args.canvas.now c.args.font.now c.in-Set.z c.args.pos.now c.character-id.result.0 c.character-id.result.1 e.font code (set_ready g.C.Canvas.can f c.args.canvas.now c.in-Set.z (open_at f.base c.args.self.now.saved.items) here r), c.requires.met))))
 
-pub turn-returns-in_err-width-in-Set-clause-stops : goal.turn-returns-in_err-width-in-Set-clause-stops
-turn-returns-in_err-width-in-Set-clause-stops g t c =
+pub turn-returns-in_err-wide-in-Set-clause-stops : goal.turn-returns-in_err-wide-in-Set-clause-stops
+turn-returns-in_err-wide-in-Set-clause-stops g t c =
     let f = c.args.frame.now in
     let set = f.fonts.now in
     let m = meaning_in f in
@@ -466,12 +479,12 @@ turn-returns-in_err-width-in-Set-clause-stops g t c =
     let id = c.character-id.result.0 in
     let k = c.character-id.result.1 in
     let q = err_from_is_err_and c.from_residual.result c.from_residual.ensures.1 in
-    let h = c.in_err-width-in-Set.ensures.stops in
+    let h = c.in_err-wide-in-Set.ensures.stops in
     rw (q.1, q.2, c.in-Set.is) (stop_on g.C.Canvas.takes g.C.Canvas.refuses g.met.C.Canvas.chains g.met.C.Canvas.refused_later c.args.canvas.now c.args.canvas.now c.show.new.canvas [] (g.met.C.Canvas.starts c.args.canvas.now) (char_marks (chars f.grid set f.nest c.args.font.now c.in-Set.z c.args.pos.now)) (turn_marks (turned m (Set c.in-Set.z) os here)) (covers_set_turn m os here c.in-Set.z) _
-    (back (λ o y. Stops g.C.Canvas.takes g.C.Canvas.refuses c.args.canvas.now c.show.new.canvas (char_marks (chars f.grid set f.nest o y c.args.pos.now)) c.in_err-width-in-Set.field-0.0) c.args.font.now c.in-Set.z id k e.font code h))
+    (back (λ o y. Stops g.C.Canvas.takes g.C.Canvas.refuses c.args.canvas.now c.show.new.canvas (char_marks (chars f.grid set f.nest o y c.args.pos.now)) c.in_err-wide-in-Set.field-0.0) c.args.font.now c.in-Set.z id k e.font code h))
 
-pub turn-returns-in_err-width-in-Set-clause-cause : goal.turn-returns-in_err-width-in-Set-clause-cause
-turn-returns-in_err-width-in-Set-clause-cause g t c =
+pub turn-returns-in_err-wide-in-Set-clause-cause : goal.turn-returns-in_err-wide-in-Set-clause-cause
+turn-returns-in_err-wide-in-Set-clause-cause g t c =
     let f = c.args.frame.now in
     let set = f.fonts.now in
     let m = meaning_in f in
@@ -486,7 +499,7 @@ turn-returns-in_err-width-in-Set-clause-cause g t c =
     let k = c.character-id.result.1 in
     let q = err_from_is_err_and c.from_residual.result c.from_residual.ensures.1 in
     let around : f.base + length os ≡ vec_len c.args.self.now.saved = omega (arith, as_many f.base items (omega (arith, c.requires.base))) in
-    rw (q.1, q.2, c.in-Set.is, around) (inr (back (λ o y. inside f.grid set f.nest (vec_len c.args.self.now.saved) o y c.args.pos.now c.in_err-width-in-Set.field-0.0) c.args.font.now c.in-Set.z id k e.font code c.in_err-width-in-Set.ensures.cause))
+    rw (q.1, q.2, c.in-Set.is, around) (inr (back (λ o y. inside f.grid set f.nest (vec_len c.args.self.now.saved) o y c.args.pos.now c.in_err-wide-in-Set.field-0.0) c.args.font.now c.in-Set.z id k e.font code c.in_err-wide-in-Set.ensures.cause))
 
 pub turn-show-requires-in-Put : goal.turn-show-requires-in-Put
 turn-show-requires-in-Put g t c κs within =
@@ -497,7 +510,7 @@ turn-show-requires-in-Put g t c κs within =
     let e = c.character-id-in-Put.ensures in
     let h0 = e.code in
     let code : c.in-Put.z ≡ pos c.character-id-in-Put.result.1 = grind (arith, to_z-of_z, h0) in
-    (search rules, (within.0, (within.1, ready_at g.C.Canvas.can f c.args.canvas.now c.args.font.now c.in-Put.z c.args.pos.now c.character-id-in-Put.result.0 c.character-id-in-Put.result.1 e.font code (put_ready g.C.Canvas.can f c.args.canvas.now c.in-Put.z (open_at f.base c.args.self.now.saved.items) here r))))
+    (search rules, (within.0, (within.1, (ready_at g.C.Canvas.can f c.args.canvas.now c.args.font.now c.in-Put.z c.args.pos.now c.character-id-in-Put.result.0 c.character-id-in-Put.result.1 e.font code (put_ready g.C.Canvas.can f c.args.canvas.now c.in-Put.z (open_at f.base c.args.self.now.saved.items) here r), c.requires.met))))
 
 pub turn-returns-in_err-show-in-Put-clause-stops : goal.turn-returns-in_err-show-in-Put-clause-stops
 turn-returns-in_err-show-in-Put-clause-stops g t c =
@@ -571,11 +584,10 @@ turn-returns-in-Ok-past_char-clause-ok g t c =
     let code : c.in-Set.z ≡ pos c.character-id.result.1 = grind (arith, to_z-of_z, h0) in
     let id = c.character-id.result.0 in
     let k = c.character-id.result.1 in
-    let w = c.in_ok-width-in-Set.width in
-    let fits : FitsSigned w64 w = search rules in
-    let took = took_back (Took (HasGlyph c.args.frame.now.grid c.args.frame.now.fonts.now) g.C.Canvas.takes) c.args.canvas.now c.show.new.canvas w (chars f.grid set f.nest) c.args.font.now c.in-Set.z c.args.pos.now id k e.font code c.in_ok-width-in-Set.ensures.ok in
-    let past = rw (to_z-of_z w64 w fits) at c.in-Ok-past_char.ensures.ok in
-    rw (c.in-Set.is, c.in_ok-width-in-Set.ensures.stack) (set_turn (Took (HasGlyph c.args.frame.now.grid c.args.frame.now.fonts.now) g.C.Canvas.takes) c.args.canvas.now c.show.new.canvas m os here c.past_char.new.pos c.in-Set.z w took past)
+    let w = c.in_ok-wide-in-Set.wide.width in
+    let took = took_back (Took (HasGlyph c.args.frame.now.grid c.args.frame.now.fonts.now) g.C.Canvas.takes) c.args.canvas.now c.show.new.canvas w (chars f.grid set f.nest) c.args.font.now c.in-Set.z c.args.pos.now id k e.font code c.in_ok-wide-in-Set.ensures.ok in
+    let past = c.in-Ok-past_char.ensures.ok in
+    rw (c.in-Set.is, c.in_ok-wide-in-Set.ensures.stack) (set_turn (Took (HasGlyph c.args.frame.now.grid c.args.frame.now.fonts.now) g.C.Canvas.takes) c.args.canvas.now c.show.new.canvas m os here c.past_char.new.pos c.in-Set.z w took past)
 
 pub turn-returns-in-Err-past_char-clause-stops : goal.turn-returns-in-Err-past_char-clause-stops
 turn-returns-in-Err-past_char-clause-stops g t c =
@@ -591,10 +603,9 @@ turn-returns-in-Err-past_char-clause-stops g t c =
     let code : c.in-Set.z ≡ pos c.character-id.result.1 = grind (arith, to_z-of_z, h0) in
     let id = c.character-id.result.0 in
     let k = c.character-id.result.1 in
-    let w = c.in_ok-width-in-Set.width in
-    let fits : FitsSigned w64 w = search rules in
-    let took = char_alone (HasGlyph c.args.frame.now.grid c.args.frame.now.fonts.now) g.C.Canvas.takes c.args.canvas.now c.show.new.canvas w (chars f.grid set f.nest c.args.font.now c.in-Set.z c.args.pos.now) (took_back (Took (HasGlyph c.args.frame.now.grid c.args.frame.now.fonts.now) g.C.Canvas.takes) c.args.canvas.now c.show.new.canvas w (chars f.grid set f.nest) c.args.font.now c.in-Set.z c.args.pos.now id k e.font code c.in_ok-width-in-Set.ensures.ok) in
-    let past = rw (to_z-of_z w64 w fits) at c.in-Err-past_char.ensures.none in
+    let w = c.in_ok-wide-in-Set.wide.width in
+    let took = char_alone (HasGlyph c.args.frame.now.grid c.args.frame.now.fonts.now) g.C.Canvas.takes c.args.canvas.now c.show.new.canvas w (chars f.grid set f.nest c.args.font.now c.in-Set.z c.args.pos.now) (took_back (Took (HasGlyph c.args.frame.now.grid c.args.frame.now.fonts.now) g.C.Canvas.takes) c.args.canvas.now c.show.new.canvas w (chars f.grid set f.nest) c.args.font.now c.in-Set.z c.args.pos.now id k e.font code c.in_ok-wide-in-Set.ensures.ok) in
+    let past = c.in-Err-past_char.ensures.none in
     rw c.in-Set.is (overflowed g.C.Canvas.takes g.C.Canvas.refuses c.args.canvas.now c.show.new.canvas m os here c.in-Set.z w c.args.spot took past)
 
 pub turn-returns-in_ok-show-in-Put-clause-ok : goal.turn-returns-in_ok-show-in-Put-clause-ok
@@ -611,7 +622,7 @@ turn-returns-in_ok-show-in-Put-clause-ok g t c =
     let code : c.in-Put.z ≡ pos c.character-id-in-Put.result.1 = grind (arith, to_z-of_z, h0) in
     let id = c.character-id-in-Put.result.0 in
     let k = c.character-id-in-Put.result.1 in
-    let w = c.in_ok-show-in-Put.field-0 in
+    let w = c.in_ok-show-in-Put.field-0.width in
     let took = took_back (Took (HasGlyph c.args.frame.now.grid c.args.frame.now.fonts.now) g.C.Canvas.takes) c.args.canvas.now c.show-in-Put.new.canvas w (chars f.grid set f.nest) c.args.font.now c.in-Put.z c.args.pos.now id k e.font code c.in_ok-show-in-Put.ensures.ok in
     rw (c.in-Put.is, c.in_ok-show-in-Put.ensures.stack) (put_turn (Took (HasGlyph c.args.frame.now.grid c.args.frame.now.fonts.now) g.C.Canvas.takes) c.args.canvas.now c.show-in-Put.new.canvas m os here c.in-Put.z w took)
 
@@ -631,6 +642,7 @@ turn-returns-in-Ok-plain g t c =
       below = refl;
       base = c.requires.base;
       behind = same_font (select f.fonts.now (scope_in f)) c.args.font.now (view c.args.cmd.now) p;
+      met = c.requires.met;
       same = c.in-Ok-plain.ensures.same;
     }
 
@@ -655,6 +667,7 @@ turn-returns-in-Err-Passed g t c =
       below = tt;
       base = tt;
       behind = tt;
+      met = tt;
       same = tt;
     }
 
@@ -678,6 +691,7 @@ turn-returns-in-Err-Canvas g t c =
       below = tt;
       base = tt;
       behind = tt;
+      met = tt;
       same = tt;
     }
 
@@ -697,20 +711,20 @@ show-returns-in-Ok-clause-room g t c =
     let set = f.fonts.now in
     let r = c.requires.ready in
     let k = covered_char set r.sel c.args.id c.args.code r.same r.covers in
-    let none : packet_at set c.args.id c.args.code ≡ None = search rules in
+    let none = c.in-Some.ensures.value.real in
     room_real f.grid set f.nest (vec_len c.args.self.now.saved) c.args.id c.args.code c.args.here.now (program_none set c.args.id c.args.code k.shown none)
 
-pub show-returns-in_ok-frame-in-Some-packet-clause-room : goal.show-returns-in_ok-frame-in-Some-packet-clause-room
-show-returns-in_ok-frame-in-Some-packet-clause-room g t c =
+pub show-returns-clause-room : goal.show-returns-clause-room
+show-returns-clause-room g t c =
     let f = c.args.frame.now in
     let set = f.fonts.now in
     let r = c.requires.ready in
     let b = c.in-Some-packet.ensures in
     let cs = b.commands.commands in
-    let w : width_at set c.args.id c.args.code ≡ Some c.in-Some.width = sym c.width.ensures.value ∙ c.in-Some.is in
+    let w : width_at set c.args.id c.args.code ≡ Some c.in-Some-width.width = sym c.width.ensures.value ∙ c.in-Some-width.is in
     let k = covered_char set r.sel c.args.id c.args.code r.same r.covers in
-    let p = packet c.one_reading.ensures f.grid set r.sel c.args.id c.args.code c.args.here.now f.nest c.in-Some.width c.in-Some-packet.packet.now cs k r.covers b.value b.commands.spelled w (omega arith) in
-    let h = rw c.inner.ensures at (c.in_ok-frame-in-Some-packet.ensures.room cs b.commands.spelled) in
+    let p = packet c.one_reading.ensures f.grid set r.sel c.args.id c.args.code c.args.here.now f.nest c.in-Some-width.width c.in-Some-packet.packet.now cs k r.covers b.value b.commands.spelled w (omega arith) in
+    let h = rw c.inner.ensures at (c.in_ok-frame.ensures.room cs b.commands.spelled) in
     let n : c.len.result ≡ vec_len c.args.self.now.saved = omega arith in
     let j = rw n at h in
     room_packet f.grid set c.args.id c.args.code c.args.here.now f.nest (vec_len c.args.self.now.saved) (packet_home set c.args.id cs) (omega arith) p.there j
@@ -747,7 +761,7 @@ turn-returns-in-Ok-past_char-clause-room g t c =
     let id = c.character-id.result.0 in
     let k = c.character-id.result.1 in
     let around : f.base + length os ≡ vec_len c.args.self.now.saved = omega (arith, as_many f.base items (omega (arith, c.requires.base))) in
-    rw c.in-Set.is (set_room (PacketFinds f.grid set f.nest) f.base os here c.in-Set.z (rw around (back (λ o y. PacketFinds f.grid set f.nest (vec_len c.args.self.now.saved) o y c.args.pos.now) c.args.font.now c.in-Set.z id k e.font code c.in_ok-width-in-Set.ensures.room)))
+    rw c.in-Set.is (set_room (PacketFinds f.grid set f.nest) f.base os here c.in-Set.z (rw around (back (λ o y. PacketFinds f.grid set f.nest (vec_len c.args.self.now.saved) o y c.args.pos.now) c.args.font.now c.in-Set.z id k e.font code c.in_ok-wide-in-Set.ensures.room)))
 
 pub turn-returns-in_ok-show-in-Put-clause-room : goal.turn-returns-in_ok-show-in-Put-clause-room
 turn-returns-in_ok-show-in-Put-clause-room g t c =

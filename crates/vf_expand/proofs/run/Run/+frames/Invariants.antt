@@ -1,4 +1,4 @@
-use Rattle.std.proofs.Common.{length, take, drop, ◌-◌, ◌+◌, ◌*◌, ◌≡◌, ◌≤◌, List, vec_capacity}
+use Rattle.std.proofs.Common.{length, take, drop, ◌-◌, ◌+◌, ◌*◌, ◌≡◌, ◌≤◌, List}
 use Rattle.positions.specs.Conditions.{SameCondition}
 use Rattle.dvi_ops.specs.Placed.{Placed, Lexes}
 use Rattle.font_set.specs.Count.{count_from}
@@ -7,6 +7,7 @@ use Rattle.vf_expand.specs.Pages.{start_in}
 use Rattle.vf_expand.specs.Homes.{first_of, scope_in, program_in, acts_in, meaning_in, count_in, IsReady}
 use Rattle.vf_expand.specs.Takes.{Took}
 use Rattle.vf_expand.specs.Painted.{HasGlyph}
+use Rattle.vf_expand.specs.Wide.{AreMet}
 use Rattle.vf_expand.specs.Shallow.{AllFindRoom, PacketFinds}
 use Rattle.vf_expand.proofs.Bytes.{Going}
 use Rattle.vf_expand.proofs.Covering.{Ahead}
@@ -31,6 +32,7 @@ invariant-frame-loop-at g l =
       higher : f.base ≤ length l.self.saved.items;
       below : take f.base l.self.saved.items ≡ l.fn.self.saved.items;
       same : SameCondition canvas.can l.fn.canvas l.canvas;
+      met : AreMet f.grid f.fonts.now l.self.glyphs.met.items;
       ahead : (cs : List Placed) × Lexes first l.bytes cs × IsReady canvas.can f l.fn.canvas cs l.fn.start × Ahead f.fonts.now (scope_in f) (acts_in f cs) l.font (drop l.at l.bytes) (first + l.at);
       counted : (cs : List Placed) → Lexes first l.bytes cs →
           (rest : List Placed) × Lexes (first + l.at) (drop l.at l.bytes) rest × (l.self.steps + count_from f.fonts.now f.nest (scope_in f) l.font rest ≡ l.fn.self.steps + count_in f cs);

@@ -1,0 +1,155 @@
+-- The fonts of a run beside fonts that serve its pages: no fault stands in these pages. No lemma here knows a job.
+use Rattle.std.proofs.Common.{◌≡◌, ◌<◌, ◌≤◌, ◌+◌, ◌⊎◌, ℕ, zero, suc, List, [], ◌∷◌, length, Option, Some, None, arith, refl, sym, ap, subst, ◌∙◌, inl, inr}
+use Rattle.dv_base.specs.Causes.{Rose}
+use Rattle.dv_base.specs.Shelf.{Contents, Told, WhereHeld}
+use Rattle.dv_base.specs.declared.units.Units.{Units}
+use Rattle.positions.specs.Mark.{Mark}
+use Rattle.positions.specs.declared.canvas.NoFault.{NoFault}
+use Rattle.dvi_ops.specs.Command.{Definition}
+use Rattle.dvi_doc.specs.Document.{PageOf}
+use Rattle.font_set.specs.Alike.{Alike, AreRight, HasTwin, HaveTwins, OneFontOf, Twin, WhatCanBeHadIsHad}
+use Rattle.font_set.specs.Covers.{Covers}
+use Rattle.font_set.specs.FontOf.{FontOf}
+use Rattle.font_set.specs.Fonts.{FontSet, IsLoaded, State, key_at, place_of, raster_bytes_in, state_at}
+use Rattle.font_set.specs.Key.{Key}
+use Rattle.font_set.specs.LoadFaults.{LoadFaultIs, MustKnow, MustLoad}
+use Rattle.font_set.specs.declared.fault.FontFault.TheVariants as font
+use Rattle.font_set.specs.declared.fault.LoadFault.{LoadFault}
+use Rattle.font_set.specs.declared.fault.LoadFault.TheVariants as load
+use Rattle.font_set.proofs.Alike.{state_twin}
+use Rattle.font_set.proofs.Ids.{one_key}
+use Rattle.font_set.proofs.Refuted.{must_known, must_loaded}
+use Rattle.vf_expand.specs.Alike.{IsOutside}
+use Rattle.vf_expand.specs.Grid as grid
+use Rattle.vf_expand.specs.Grid.{Grid}
+use Rattle.vf_expand.specs.Marks.{Outcome as Marking, marks_alone}
+use Rattle.vf_expand.specs.Page.{IsPageCause, IsShallowPage, page_acts, page_count, page_marks, pages_count}
+use Rattle.vf_expand.specs.declared.fault.WalkFault.{WalkFault}
+use Rattle.vf_expand.specs.declared.fault.WalkFault.TheVariants as walk
+use Rattle.vf_expand.proofs.Alike.{count_alike, faultless_alike}
+use Rattle.ps_emit.specs.Pages.{PrintedPage}
+use Rattle.dv_top.specs.Checking.{StopsIn}
+use Rattle.dv_top.specs.Completeness.{Serve}
+use Rattle.dv_top.specs.Covered.{CoversPages}
+use Rattle.dv_top.specs.Each.{Any, Each}
+use Rattle.dv_top.specs.Printing.{joined, most_steps, printed_from, where_marked}
+use Rattle.dv_top.specs.Sources.{AreFontsFor, frame_of, no_fonts}
+
+-- ---- pages whose marks are defined
+
+marked : (g : Grid) (set : FontSet) (ds : List Definition) (n : ℕ) (p : PageOf) (ps : List PageOf) (qs : List PrintedPage) → printed_from g set ds n (p ∷ ps) ≡ Some qs → (r : List Mark × grid.State) × (page_marks g set ds p.commands ≡ Some r)
+marked g set ds n p ps qs e = by (page_marks g set ds p.commands) refl e
+  where
+    by : (o : Marking) → page_marks g set ds p.commands ≡ o → joined (where_marked p n (marks_alone o)) (printed_from g set ds (n + 1) ps) ≡ Some qs → (r : List Mark × grid.State) × (page_marks g set ds p.commands ≡ Some r)
+    by None is k = absurd (cc)
+    by (Some r) is k = (r, is)
+
+rest_printed : (a : Option PrintedPage) (b : Option (List PrintedPage)) (qs : List PrintedPage) → joined a b ≡ Some qs → (rs : List PrintedPage) × (b ≡ Some rs)
+rest_printed None b qs e = absurd (cc)
+rest_printed (Some p) None qs e = absurd (cc)
+rest_printed (Some p) (Some rs) qs e = (rs, refl)
+
+-- ---- fonts that serve the pages
+
+-- what is so of each page, and what is so of one
+any_each : (P Q : PageOf → Type 0) (R : Type 0) (pages : List PageOf) → ((p : PageOf) → Q p → P p → R) → Each Q pages → Any P pages → R
+any_each P Q R [] f each h = absurd h
+any_each P Q R (p ∷ ps) f each (inl h) = f p each.0 h
+any_each P Q R (p ∷ ps) f each (inr h) = any_each P Q R ps f each.1 h
+
+none_loaded : (units : Units) (id : ℕ) → IsLoaded (state_at (no_fonts units) id) → ⊥
+unfolding state_at
+none_loaded units zero h = h
+none_loaded units (suc id) h = h
+
+same_id : (i j : ℕ) → Some i ≡ Some j → i ≡ j
+same_id i j e = cc
+
+fewer_bytes : (s t : State) → (IsLoaded s → s ≡ t) → raster_bytes_in s ≤ raster_bytes_in t
+fewer_bytes State.Known t f = omega arith
+fewer_bytes (State.Real tfm pk) t f = let n = ap raster_bytes_in (f tt) in omega (arith, n)
+fewer_bytes (State.Virtual tfm vf) t f = omega arith
+
+-- The fonts of a run beside fonts that serve its pages.
+module _ (one : OneFontOf) (told : Told) (contents : Contents) (tells : told.held ≡ Some contents) (units : Units) (ds : List Definition) (pages : List PageOf) (set fonts : FontSet) (gained : AreFontsFor told units ds pages set)
+    (serve : Serve contents units ds pages fonts) where
+  alike : Alike contents set fonts
+  alike = record { units = gained.extends.units ∙ sym serve.same; want = gained.extends.want ∙ sym serve.wanted; left = right; right = serve.right }
+    where
+      right : AreRight contents set
+      right id l =
+          elim (gained.loads id l) [
+            | inl was ↦ absurd (none_loaded units id was)
+            | inr h ↦ subst (λ (o : Option Contents). WhereHeld o (λ held. FontOf held set.units set.want (key_at set id) (state_at set id))) tells h.1
+          ]
+
+  -- a font that is loaded is loaded there too
+  loaded_there : (id : ℕ) → IsLoaded (state_at set id) → (key : Key) × (j : ℕ) × Twin set fonts key id j × IsLoaded (state_at fonts j)
+  loaded_there id l =
+      elim (gained.loads id l) [
+        | inl was ↦ absurd (none_loaded units id was)
+        | inr h ↦ any_each (λ (p : PageOf). MustLoad set (frame_of ds p) id) (λ (p : PageOf). Covers fonts (page_acts ds p.commands)) ((key : Key) × (j : ℕ) × Twin set fonts key id j × IsLoaded (state_at fonts j)) pages
+            (λ p covers must. must_loaded one contents set fonts alike (frame_of ds p) covers id must) serve.covers h.0
+      ]
+
+  twins : HaveTwins set fonts
+  twins id inside =
+      elim (gained.knows id inside) [
+        | inl was ↦ absurd (omega (arith, was))
+        | inr h ↦ by h.0 h.1 (any_each (λ (p : PageOf). MustKnow set (frame_of ds p) h.0) (λ (p : PageOf). Covers fonts (page_acts ds p.commands)) ((j : ℕ) × (place_of fonts.fonts h.0 ≡ Some j)) pages
+            (λ p covers must. must_known one contents set fonts alike (frame_of ds p) covers h.0 must) serve.covers h.2)
+      ]
+    where
+      by : (key : Key) → place_of set.fonts key ≡ Some id → (j : ℕ) × (place_of fonts.fonts key ≡ Some j) → HasTwin set fonts id
+      by key placed (j, there) =
+          record {
+            key = key;
+            placed = placed;
+            id = j;
+            there = there;
+            bytes = fewer_bytes (state_at set id) (state_at fonts j) (λ l. same l (loaded_there id l));
+          }
+        where
+          same : IsLoaded (state_at set id) → (k : Key) × (i : ℕ) × Twin set fonts k id i × IsLoaded (state_at fonts i) → state_at set id ≡ state_at fonts j
+          same l (k, i, t, m) =
+              let one_name : k ≡ key = one_key set.fonts k key id t.left placed in
+              let place : i ≡ j = same_id i j (sym t.right ∙ ap (place_of fonts.fonts) one_name ∙ there) in
+              state_twin one contents set fonts alike k id i t l m ∙ ap (state_at fonts) place
+
+  -- no fault of loading stands in a page
+  pub no_load : WhatCanBeHadIsHad → (later : Told) → (Rose told.faults later.faults → ⊥) → (fault : LoadFault) → Any (λ (p : PageOf). LoadFaultIs set (frame_of ds p) told later fault) pages → fault ≡ load.Font font.OutOfMemory
+  no_load had later shelf fault h =
+      any_each (λ (p : PageOf). LoadFaultIs set (frame_of ds p) told later fault) (λ (p : PageOf). Covers fonts (page_acts ds p.commands)) (fault ≡ load.Font font.OutOfMemory) pages
+      (λ p covers is. had contents set fonts (frame_of ds p) told later (record { alike = alike; covers = covers; twins = twins; few = serve.few; room = serve.room }) tells shelf fault is) serve.covers h
+
+  -- ---- no page has a fault
+
+  outside : (e : WalkFault NoFault) → (e ≡ walk.TooManySteps → ⊥) → IsOutside e → ⊥
+  outside walk.TooManySteps few h = few refl
+  outside (walk.Canvas f) few h = elim f [ ]
+  outside _ few h = h
+
+  pages_faultless : (g : Grid) (n : ℕ) (ps : List PageOf) (qs : List PrintedPage) → CoversPages set ds ps → CoversPages fonts ds ps → printed_from g fonts ds n ps ≡ Some qs → Each (λ (p : PageOf). IsShallowPage g fonts ds p.commands) ps
+      → (e : WalkFault NoFault) → (e ≡ walk.TooManySteps → ⊥) → Any (λ (p : PageOf). IsPageCause g set ds p e) ps → ⊥
+  pages_faultless g n [] qs mine theirs is shallow e few h = h
+  pages_faultless g n (p ∷ ps) qs mine theirs is shallow e few (inl h) =
+      let r = marked g fonts ds n p ps qs is in
+      outside e few (faultless_alike NoFault one contents set fonts alike g ds p r.0 mine.0 theirs.0 r.1 shallow.0 e h)
+  pages_faultless g n (p ∷ ps) qs mine theirs is shallow e few (inr h) =
+      let rs = rest_printed (where_marked p n (marks_alone (page_marks g fonts ds p.commands))) (printed_from g fonts ds (n + 1) ps) qs is in
+      pages_faultless g (n + 1) ps rs.0 mine.1 theirs.1 rs.1 shallow.1 e few h
+
+  same_count : (ps : List PageOf) → CoversPages set ds ps → CoversPages fonts ds ps → pages_count set ds ps ≡ pages_count fonts ds ps
+  same_count [] mine theirs = refl
+  same_count (p ∷ ps) mine theirs =
+      ap (λ (n : ℕ). n + pages_count set ds ps) (count_alike one contents set fonts alike ds p.commands mine.0 theirs.0) ∙ ap (λ (n : ℕ). page_count fonts ds p.commands + n) (same_count ps mine.1 theirs.1)
+
+  pub no_stop : (g : Grid) (qs : List PrintedPage) → CoversPages set ds pages → printed_from g fonts ds 1 pages ≡ Some qs → Each (λ (p : PageOf). IsShallowPage g fonts ds p.commands) pages → pages_count fonts ds pages ≤ most_steps
+      → (e : WalkFault NoFault) → StopsIn g set ds pages e → ⊥
+  no_stop g qs mine is shallow few (walk.StackUnder x) h = pages_faultless g 1 pages qs mine serve.covers is shallow (walk.StackUnder x) (λ e. cc) h
+  no_stop g qs mine is shallow few (walk.StackLeft x) h = pages_faultless g 1 pages qs mine serve.covers is shallow (walk.StackLeft x) (λ e. cc) h
+  no_stop g qs mine is shallow few (walk.StackDeep x) h = pages_faultless g 1 pages qs mine serve.covers is shallow (walk.StackDeep x) (λ e. cc) h
+  no_stop g qs mine is shallow few (walk.NestDeep id code) h = pages_faultless g 1 pages qs mine serve.covers is shallow (walk.NestDeep id code) (λ e. cc) h
+  no_stop g qs mine is shallow few walk.TooManySteps h = let same = same_count pages mine serve.covers in omega (arith, few, h, same)
+  no_stop g qs mine is shallow few (walk.Overflow x) h = pages_faultless g 1 pages qs mine serve.covers is shallow (walk.Overflow x) (λ e. cc) h
+  no_stop g qs mine is shallow few (walk.Canvas f) h = h
