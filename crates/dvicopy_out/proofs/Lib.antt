@@ -1,0 +1,12 @@
+pub mod Spelling
+pub mod Numbering
+pub mod Paging
+pub mod Sending
+pub mod Walked
+pub mod Takes
+pub mod Rows
+pub mod Ending
+pub mod Documented
+pub mod Spellable
+pub mod Same
+pub mod RealFonts
