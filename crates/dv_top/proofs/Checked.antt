@@ -1,20 +1,20 @@
 -- Pages that are walked over one after another, and what they use.
-use Rattle.std.proofs.Common.{◌≡◌, ◌<◌, ◌≤◌, ◌+◌, ◌^◌, ◌⊎◌, ◌||◌, Bool, ℕ, List, [], ◌∷◌, ◌++◌, length, take, drop, suc, Option, Some, None, arith, refl, sym, ap, subst, ◌∙◌, append_assoc}
+use Rattle.std.proofs.Common.{◌≡◌, ◌<◌, ◌≤◌, ◌+◌, ◌^◌, ◌||◌, Bool, ℕ, List, [], ◌∷◌, ◌++◌, length, take, drop, suc, Option, Some, None, arith, refl, sym, ap, subst, ◌∙◌}
 use Rattle.std.specs.Prelude.{slice_get, unsigned_abs, ℤ, pos, ◌<ℤ◌, ◌≤ℤ◌}
 use Rattle.std.proofs.lemmas.Int.{ints}
 use Rattle.std.proofs.lemmas.List.{append-nil}
 use Rattle.dv_base.specs.Rounding.{Fraction, rounded}
 use Rattle.dv_base.specs.UnitPixels.{pixels_of_one}
-use Rattle.positions.specs.Mark.{Glyph, Mark, IsModerate}
+use Rattle.positions.specs.Mark.{Glyph, Mark}
 use Rattle.positions.specs.Mark.Mark.{OfGlyph, OfRule, OfSpecial}
 use Rattle.positions.specs.declared.canvas.NoFault.{NoFault}
 use Rattle.dvi_ops.specs.Command.{Definition}
 use Rattle.dvi_doc.specs.Document.{PageOf}
 use Rattle.tfm_widths.specs.Widths.{Table}
 use Rattle.pk_raster.specs.Font.{Bitmap, Font}
-use Rattle.font_set.specs.Covers.{Covers, HasBitmap, IsShown, IsThere}
+use Rattle.font_set.specs.Covers.{Covers, IsThere}
 use Rattle.font_set.specs.Frames.{FontAct}
-use Rattle.font_set.specs.Fonts.{FontSet, State, bitmap_at, bitmap_by, pixels_at, pk_in, rounded_by, state_at, width_at}
+use Rattle.font_set.specs.Fonts.{FontSet, State, bitmap_at, bitmap_by, pixels_at, pk_in, rounded_by, state_at}
 use Rattle.vf_expand.specs.Grid.{Grid}
 use Rattle.vf_expand.specs.Causes.{IsMany}
 use Rattle.vf_expand.specs.Marks.{Outcome, marks_alone}
@@ -24,14 +24,15 @@ use Rattle.vf_expand.specs.Takes.{AllCome, MayCome, TookPage}
 use Rattle.vf_expand.specs.declared.fault.WalkFault.{WalkFault}
 use Rattle.vf_expand.specs.declared.fault.WalkFault.TheVariants as walk
 use Rattle.vf_expand.proofs.Later.{count_front, count_next, took_defined}
-use Rattle.sections.specs.Used.{CanTake, HasTaken, Takes, Used, used_in}
+use Rattle.sections.specs.Used.{CanTake, HasTaken, SameFonts, Takes, Used, used_in}
 use Rattle.sections.specs.UsedLaws.{took_both}
-use Rattle.ps_emit.specs.Taken.{AllTakeable, IsTakeable}
+use Rattle.ps_emit.specs.Taken.{AllTakeable}
 use Rattle.dv_top.specs.Checking.{IsWalkReason, StopsIn}
-use Rattle.dv_top.specs.Each.{Any, Each}
-use Rattle.dv_top.specs.Printing.{label_of, most_steps}
+use Rattle.dv_top.specs.Printing.{label_of, marks_of_each, marks_or_none, most_steps}
 use Rattle.dv_top.specs.Tells.{WalkTells}
-use Rattle.dv_top.specs.Writing.{HasRasters, IsReady, marks_in, marks_or_none}
+use Rattle.dv_top.specs.Writing.{HasRasters, IsReady, marks_in}
+use Rattle.sections.specs.Sections.{all_marks}
+use Rattle.sections.proofs.Planning.{marks_both}
 use Rattle.dv_top.specs.declared.outcome.Outcome.{Outcome as Ending}
 use Rattle.dv_top.proofs.Lists.{any_at, split_at, take_more}
 
@@ -70,8 +71,8 @@ all_takeable g set across rasters (OfSpecial s ∷ ms) h = (h.0, all_takeable g 
 
 module _ (g : Grid) (set : FontSet) (ds : List Definition) where
   pub page_ready : (old new : Used) (p : PageOf) → g.across ≡ pixels_of_one set.units → HasRasters set → TookPage Takes old new (page_marks g set ds p.commands) → AreComing g set (page_marks g set ds p.commands)
-      → Covers set (page_acts ds p.commands) → IsShallowPage g set ds p.commands → unsigned_abs (label_of p.counts) ≤ 2 ^ 31 → IsReady g set ds p
-  page_ready old new p across rasters took came covered shallow small =
+      → Covers set (page_acts ds p.commands) → IsShallowPage g set ds p.commands → page_count set ds p.commands ≤ most_steps → unsigned_abs (label_of p.counts) ≤ 2 ^ 31 → IsReady g set ds p
+  page_ready old new p across rasters took came covered shallow few small =
       let r = took_defined Takes old new (page_marks g set ds p.commands) took in
       record {
         marks = r.0.0;
@@ -80,14 +81,16 @@ module _ (g : Grid) (set : FontSet) (ds : List Definition) where
         takeable = all_takeable g set across rasters r.0.0 (subst (AreComing g set) r.1 came);
         covered = covered;
         shallow = shallow;
+        few = few;
         labelled = small;
       }
 
-  marks_append : (xs ys : List PageOf) → marks_in g set ds (xs ++ ys) ≡ marks_in g set ds xs ++ marks_in g set ds ys
-  marks_append [] ys = refl
-  marks_append (x ∷ xs) ys =
-      ap (λ (ms : List Mark). marks_or_none (marks_alone (page_marks g set ds x.commands)) ++ ms) (marks_append xs ys)
-      ∙ sym (append_assoc (marks_or_none (marks_alone (page_marks g set ds x.commands))) (marks_in g set ds xs) (marks_in g set ds ys))
+  pub each_append : (xs ys : List PageOf) → marks_of_each g set ds (xs ++ ys) ≡ marks_of_each g set ds xs ++ marks_of_each g set ds ys
+  each_append [] ys = refl
+  each_append (x ∷ xs) ys = ap (λ (ms : List (List Mark)). marks_or_none (marks_alone (page_marks g set ds x.commands)) ∷ ms) (each_append xs ys)
+
+  pub marks_append : (xs ys : List PageOf) → marks_in g set ds (xs ++ ys) ≡ marks_in g set ds xs ++ marks_in g set ds ys
+  marks_append xs ys = ap all_marks (each_append xs ys) ∙ marks_both (marks_of_each g set ds xs) (marks_of_each g set ds ys)
 
   -- what one page more uses
   pub takes_more : (pages : List PageOf) (k : ℕ) (p : PageOf) (a b c : Used) → slice_get pages k ≡ Some p → Takes a b (marks_in g set ds (take k pages)) → TookPage Takes b c (page_marks g set ds p.commands)
@@ -135,3 +138,12 @@ taken_all a b marks h t =
           let inside : id < a.fonts = omega (arith, given, t.same.fonts) in
           t.exactly id code inside small ∙ ap (λ (x : Bool). x || used_in marks id code) (h.exactly id code inside small);
     }
+
+-- what takes a page keeps its fonts
+pub took_fonts : (a b : Used) (o : Outcome) → TookPage Takes a b o → b.fonts ≡ a.fonts
+took_fonts a b None h = absurd h
+took_fonts a b (Some r) h = h.same.fonts
+
+pub took_same : (a b : Used) (o : Outcome) → TookPage Takes a b o → SameFonts a b
+took_same a b None h = absurd h
+took_same a b (Some r) h = h.same

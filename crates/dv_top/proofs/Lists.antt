@@ -1,6 +1,7 @@
 -- What is true of each element of a list, or of one of them.
-use Rattle.std.proofs.Common.{◌≡◌, ◌≤◌, ◌+◌, ◌⊎◌, ℕ, zero, suc, List, [], ◌∷◌, ◌++◌, length, take, drop, Some, arith, refl, sym, ap, subst, add-one, inl, inr}
-use Rattle.std.specs.Prelude.{slice_get}
+use Rattle.std.proofs.Common.{◌≡◌, ◌<◌, ◌≤◌, ◌+◌, ℕ, zero, suc, List, [], ◌∷◌, ◌++◌, length, map, get_or, take, drop, Some, arith, refl, sym, ap, subst, add-one, inl, inr}
+use Rattle.std.specs.Prelude.{slice_get, fold, IfErr, Result, Ok, Err}
+use Rattle.std.specs.List.{sum}
 use Rattle.dv_top.specs.Each.{Any, Each}
 
 pub same_some : {X : Type 0} (x y : X) → Some x ≡ Some y → x ≡ y
@@ -85,3 +86,66 @@ pub any_at : {X : Type 0} (P : X → Type 0) (xs : List X) (k : ℕ) (x : X) →
 any_at P [] k x e p = absurd (cc)
 any_at P (y ∷ ys) zero x e p = inl (subst P (sym (same_some y x e)) p)
 any_at P (y ∷ ys) (suc k) x e p = inr (any_at P ys k x e p)
+
+-- ---- each element of parts of a list
+
+pub each_join : {X : Type 0} (P : X → Type 0) (xs ys : List X) → Each P xs → Each P ys → Each P (xs ++ ys)
+each_join P [] ys h k = k
+each_join P (x ∷ xs) ys h k = (h.0, each_join P xs ys h.1 k)
+
+pub each_take : {X : Type 0} (P : X → Type 0) (n : ℕ) (xs : List X) → Each P xs → Each P (take n xs)
+each_take P zero [] h = tt
+each_take P (suc n) [] h = tt
+each_take P zero (x ∷ xs) h = tt
+each_take P (suc n) (x ∷ xs) h = (h.0, each_take P n xs h.1)
+
+pub each_drop : {X : Type 0} (P : X → Type 0) (n : ℕ) (xs : List X) → Each P xs → Each P (drop n xs)
+each_drop P zero [] h = tt
+each_drop P (suc n) [] h = tt
+each_drop P zero (x ∷ xs) h = h
+each_drop P (suc n) (x ∷ xs) h = each_drop P n xs h.1
+
+pub cons_head : {X : Type 0} (x y : X) (xs ys : List X) → x ∷ xs ≡ y ∷ ys → x ≡ y
+cons_head x y xs ys e = cc
+
+pub cons_tail : {X : Type 0} (x y : X) (xs ys : List X) → x ∷ xs ≡ y ∷ ys → xs ≡ ys
+cons_tail x y xs ys e = cc
+
+pub take_map : {X Y : Type 0} (f : X → Y) (n : ℕ) (xs : List X) → map f (take n xs) ≡ take n (map f xs)
+take_map f zero [] = refl
+take_map f (suc n) [] = refl
+take_map f zero (x ∷ xs) = refl
+take_map f (suc n) (x ∷ xs) = ap (λ ys. f x ∷ ys) (take_map f n xs)
+
+pub drop_map : {X Y : Type 0} (f : X → Y) (n : ℕ) (xs : List X) → map f (drop n xs) ≡ drop n (map f xs)
+drop_map f zero [] = refl
+drop_map f (suc n) [] = refl
+drop_map f zero (x ∷ xs) = refl
+drop_map f (suc n) (x ∷ xs) = drop_map f n xs
+
+-- the element at a place
+pub at_place : {X : Type 0} (xs : List X) (k : ℕ) (d : X) → k < length xs → slice_get xs k ≡ Some (get_or xs k d)
+at_place [] k d h = absurd (omega arith)
+at_place (x ∷ xs) zero d h = refl
+at_place (x ∷ xs) (suc k) d h = at_place xs k d (omega arith)
+
+pub each_none : {X : Type 0} (P : X → Type 0) (xs : List X) → Each P (take 0 xs)
+each_none P [] = tt
+each_none P (x ∷ xs) = tt
+
+-- ---- sums
+
+fold_start : (a : ℕ) (xs : List ℕ) → fold ◌+◌ a xs ≡ a + fold ◌+◌ 0 xs
+fold_start a [] = omega arith
+fold_start a (x ∷ xs) =
+    let one : fold ◌+◌ (a + x) xs ≡ a + x + fold ◌+◌ 0 xs = fold_start (a + x) xs in
+    let two : fold ◌+◌ (0 + x) xs ≡ 0 + x + fold ◌+◌ 0 xs = fold_start (0 + x) xs in
+    omega (arith, one, two)
+
+pub sum_cons : (x : ℕ) (xs : List ℕ) → sum (x ∷ xs) ≡ x + sum xs
+sum_cons x xs = let one : fold ◌+◌ (0 + x) xs ≡ 0 + x + fold ◌+◌ 0 xs = fold_start (0 + x) xs in omega (arith, one)
+
+-- an error that is one thing is another
+pub err_as : {T E : Type 0} (r : Result T E) (P Q : E → Type 0) → ((e : E) → P e → Q e) → IfErr r P → IfErr r Q
+err_as (Ok x) P Q f h = tt
+err_as (Err e) P Q f h = f e h

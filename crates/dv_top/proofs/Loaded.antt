@@ -1,5 +1,5 @@
 -- Fonts that are loaded page by page.
-use Rattle.std.proofs.Common.{◌≡◌, ◌<◌, ◌+◌, ◌⊎◌, append_assoc, ℕ, ℤ, pos, List, [], ◌∷◌, ◌++◌, length, take, Option, Some, None, refl, sym, ap, subst, ◌∙◌, inl, inr}
+use Rattle.std.proofs.Common.{◌≡◌, ◌+◌, append_assoc, ℕ, ℤ, pos, List, [], ◌∷◌, ◌++◌, take, Option, Some, None, refl, sym, ap, subst, ◌∙◌, inl, inr}
 use Rattle.std.specs.Prelude.{slice_get, fold}
 use Rattle.std.proofs.lemmas.List.{append-nil}
 use Rattle.std.proofs.lemmas.List.Sums.{fold-append}
@@ -13,7 +13,7 @@ use Rattle.font_set.specs.Covers.{Covers}
 use Rattle.font_set.specs.Expand.{Expanded, expand, keys_of}
 use Rattle.font_set.specs.Fonts.{FontSet}
 use Rattle.font_set.specs.Frames.{acts_of}
-use Rattle.font_set.specs.Gains.{Gains, GainsFor}
+use Rattle.font_set.specs.Gains.{GainsFor}
 use Rattle.font_set.specs.Growth.{Extends, keys_now}
 use Rattle.font_set.specs.Key.{Key, same_key}
 use Rattle.font_set.specs.Laws.{CoversLater, InOrderOfTree}
@@ -35,7 +35,7 @@ use Rattle.dv_top.specs.Covered.{CoversPages, Expands, keys_or_none, selected_ke
 use Rattle.dv_top.specs.Each.{Any, Each}
 use Rattle.dv_top.specs.Given.{IsGiven, LoadNamesGiven}
 use Rattle.dv_top.specs.Loading.{GainsPages, IsLoadReason, Orders}
-use Rattle.dv_top.specs.Sources.{InSomePage, frame_of}
+use Rattle.dv_top.specs.Sources.{frame_of}
 use Rattle.dv_top.specs.Tells.{LoadTells}
 use Rattle.dv_top.specs.declared.outcome.Outcome.{Outcome}
 use Rattle.dv_top.proofs.Lists.{any_all, any_as, any_at, any_behind, any_front, each_as, each_behind, each_front, each_more, take_more}

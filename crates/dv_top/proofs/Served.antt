@@ -1,9 +1,10 @@
 -- The fonts of a run beside fonts that serve its pages: no fault stands in these pages. No lemma here knows a job.
-use Rattle.std.proofs.Common.{◌≡◌, ◌<◌, ◌≤◌, ◌+◌, ◌⊎◌, ℕ, zero, suc, List, [], ◌∷◌, length, Option, Some, None, arith, refl, sym, ap, subst, ◌∙◌, inl, inr}
+use Rattle.std.proofs.Common.{◌≡◌, ◌<◌, ◌≤◌, ◌+◌, ◌⊎◌, ℕ, zero, suc, List, [], ◌∷◌, ◌++◌, length, Option, Some, None, arith, refl, sym, ap, subst, ◌∙◌, inl, inr}
 use Rattle.dv_base.specs.Causes.{Rose}
 use Rattle.dv_base.specs.Shelf.{Contents, Told, WhereHeld}
 use Rattle.dv_base.specs.declared.units.Units.{Units}
-use Rattle.positions.specs.Mark.{Mark}
+use Rattle.positions.specs.Mark.{Mark, Special}
+use Rattle.positions.specs.Mark.Mark.{OfGlyph, OfRule, OfSpecial}
 use Rattle.positions.specs.declared.canvas.NoFault.{NoFault}
 use Rattle.dvi_ops.specs.Command.{Definition}
 use Rattle.dvi_doc.specs.Document.{PageOf}
@@ -19,35 +20,24 @@ use Rattle.font_set.specs.declared.fault.LoadFault.TheVariants as load
 use Rattle.font_set.proofs.Alike.{state_twin}
 use Rattle.font_set.proofs.Ids.{one_key}
 use Rattle.font_set.proofs.Refuted.{must_known, must_loaded}
-use Rattle.vf_expand.specs.Alike.{IsOutside}
-use Rattle.vf_expand.specs.Grid as grid
+use Rattle.vf_expand.specs.Alike.{IsOutside, MarksAlike}
 use Rattle.vf_expand.specs.Grid.{Grid}
 use Rattle.vf_expand.specs.Marks.{Outcome as Marking, marks_alone}
 use Rattle.vf_expand.specs.Page.{IsPageCause, IsShallowPage, page_acts, page_count, page_marks, pages_count}
 use Rattle.vf_expand.specs.declared.fault.WalkFault.{WalkFault}
 use Rattle.vf_expand.specs.declared.fault.WalkFault.TheVariants as walk
 use Rattle.vf_expand.proofs.Alike.{count_alike, faultless_alike}
-use Rattle.ps_emit.specs.Pages.{PrintedPage}
+use Rattle.vf_expand.proofs.AlikeMarks.{marks_alike}
+use Rattle.sections.specs.Cost.{marks_cost}
 use Rattle.dv_top.specs.Checking.{StopsIn}
 use Rattle.dv_top.specs.Completeness.{Serve}
 use Rattle.dv_top.specs.Covered.{CoversPages}
 use Rattle.dv_top.specs.Each.{Any, Each}
-use Rattle.dv_top.specs.Printing.{joined, most_steps, printed_from, where_marked}
+use Rattle.dv_top.specs.Headers.{header_names, names_in, with_names}
+use Rattle.dv_top.specs.Printing.{IsMarked, marks_of_each, marks_or_none, most_steps}
+use Rattle.dv_top.specs.Specials.{specials_in, specials_of}
 use Rattle.dv_top.specs.Sources.{AreFontsFor, frame_of, no_fonts}
-
--- ---- pages whose marks are defined
-
-marked : (g : Grid) (set : FontSet) (ds : List Definition) (n : ℕ) (p : PageOf) (ps : List PageOf) (qs : List PrintedPage) → printed_from g set ds n (p ∷ ps) ≡ Some qs → (r : List Mark × grid.State) × (page_marks g set ds p.commands ≡ Some r)
-marked g set ds n p ps qs e = by (page_marks g set ds p.commands) refl e
-  where
-    by : (o : Marking) → page_marks g set ds p.commands ≡ o → joined (where_marked p n (marks_alone o)) (printed_from g set ds (n + 1) ps) ≡ Some qs → (r : List Mark × grid.State) × (page_marks g set ds p.commands ≡ Some r)
-    by None is k = absurd (cc)
-    by (Some r) is k = (r, is)
-
-rest_printed : (a : Option PrintedPage) (b : Option (List PrintedPage)) (qs : List PrintedPage) → joined a b ≡ Some qs → (rs : List PrintedPage) × (b ≡ Some rs)
-rest_printed None b qs e = absurd (cc)
-rest_printed (Some p) None qs e = absurd (cc)
-rest_printed (Some p) (Some rs) qs e = (rs, refl)
+use Rattle.dv_top.proofs.AlikeCost.{cost_alike, no_cost}
 
 -- ---- fonts that serve the pages
 
@@ -129,27 +119,80 @@ module _ (one : OneFontOf) (told : Told) (contents : Contents) (tells : told.hel
   outside (walk.Canvas f) few h = elim f [ ]
   outside _ few h = h
 
-  pages_faultless : (g : Grid) (n : ℕ) (ps : List PageOf) (qs : List PrintedPage) → CoversPages set ds ps → CoversPages fonts ds ps → printed_from g fonts ds n ps ≡ Some qs → Each (λ (p : PageOf). IsShallowPage g fonts ds p.commands) ps
+  pages_faultless : (g : Grid) (ps : List PageOf) → CoversPages set ds ps → CoversPages fonts ds ps → Each (IsMarked g fonts ds) ps → Each (λ (p : PageOf). IsShallowPage g fonts ds p.commands) ps
       → (e : WalkFault NoFault) → (e ≡ walk.TooManySteps → ⊥) → Any (λ (p : PageOf). IsPageCause g set ds p e) ps → ⊥
-  pages_faultless g n [] qs mine theirs is shallow e few h = h
-  pages_faultless g n (p ∷ ps) qs mine theirs is shallow e few (inl h) =
-      let r = marked g fonts ds n p ps qs is in
-      outside e few (faultless_alike NoFault one contents set fonts alike g ds p r.0 mine.0 theirs.0 r.1 shallow.0 e h)
-  pages_faultless g n (p ∷ ps) qs mine theirs is shallow e few (inr h) =
-      let rs = rest_printed (where_marked p n (marks_alone (page_marks g fonts ds p.commands))) (printed_from g fonts ds (n + 1) ps) qs is in
-      pages_faultless g (n + 1) ps rs.0 mine.1 theirs.1 rs.1 shallow.1 e few h
+  pages_faultless g [] mine theirs is shallow e few h = h
+  pages_faultless g (p ∷ ps) mine theirs is shallow e few (inl h) =
+      let r = is.0 in
+      outside e few (faultless_alike NoFault one contents set fonts alike g ds p (r.marks, r.state) mine.0 theirs.0 r.defined shallow.0 e h)
+  pages_faultless g (p ∷ ps) mine theirs is shallow e few (inr h) = pages_faultless g ps mine.1 theirs.1 is.1 shallow.1 e few h
 
   same_count : (ps : List PageOf) → CoversPages set ds ps → CoversPages fonts ds ps → pages_count set ds ps ≡ pages_count fonts ds ps
   same_count [] mine theirs = refl
   same_count (p ∷ ps) mine theirs =
       ap (λ (n : ℕ). n + pages_count set ds ps) (count_alike one contents set fonts alike ds p.commands mine.0 theirs.0) ∙ ap (λ (n : ℕ). page_count fonts ds p.commands + n) (same_count ps mine.1 theirs.1)
 
-  pub no_stop : (g : Grid) (qs : List PrintedPage) → CoversPages set ds pages → printed_from g fonts ds 1 pages ≡ Some qs → Each (λ (p : PageOf). IsShallowPage g fonts ds p.commands) pages → pages_count fonts ds pages ≤ most_steps
+  pub no_stop : (g : Grid) → CoversPages set ds pages → Each (IsMarked g fonts ds) pages → Each (λ (p : PageOf). IsShallowPage g fonts ds p.commands) pages → pages_count fonts ds pages ≤ most_steps
       → (e : WalkFault NoFault) → StopsIn g set ds pages e → ⊥
-  no_stop g qs mine is shallow few (walk.StackUnder x) h = pages_faultless g 1 pages qs mine serve.covers is shallow (walk.StackUnder x) (λ e. cc) h
-  no_stop g qs mine is shallow few (walk.StackLeft x) h = pages_faultless g 1 pages qs mine serve.covers is shallow (walk.StackLeft x) (λ e. cc) h
-  no_stop g qs mine is shallow few (walk.StackDeep x) h = pages_faultless g 1 pages qs mine serve.covers is shallow (walk.StackDeep x) (λ e. cc) h
-  no_stop g qs mine is shallow few (walk.NestDeep id code) h = pages_faultless g 1 pages qs mine serve.covers is shallow (walk.NestDeep id code) (λ e. cc) h
-  no_stop g qs mine is shallow few walk.TooManySteps h = let same = same_count pages mine serve.covers in omega (arith, few, h, same)
-  no_stop g qs mine is shallow few (walk.Overflow x) h = pages_faultless g 1 pages qs mine serve.covers is shallow (walk.Overflow x) (λ e. cc) h
-  no_stop g qs mine is shallow few (walk.Canvas f) h = h
+  no_stop g mine is shallow few (walk.StackUnder x) h = pages_faultless g pages mine serve.covers is shallow (walk.StackUnder x) (λ e. cc) h
+  no_stop g mine is shallow few (walk.StackLeft x) h = pages_faultless g pages mine serve.covers is shallow (walk.StackLeft x) (λ e. cc) h
+  no_stop g mine is shallow few (walk.StackDeep x) h = pages_faultless g pages mine serve.covers is shallow (walk.StackDeep x) (λ e. cc) h
+  no_stop g mine is shallow few (walk.NestDeep id code) h = pages_faultless g pages mine serve.covers is shallow (walk.NestDeep id code) (λ e. cc) h
+  no_stop g mine is shallow few walk.TooManySteps h = let same = same_count pages mine serve.covers in omega (arith, few, h, same)
+  no_stop g mine is shallow few (walk.Overflow x) h = pages_faultless g pages mine serve.covers is shallow (walk.Overflow x) (λ e. cc) h
+  no_stop g mine is shallow few (walk.Canvas f) h = h
+
+  -- ---- what the pages have
+
+  -- pages that are marked with both have alike marks
+  abbrev PagesAlike : List (List Mark) → List (List Mark) → Type 0
+  PagesAlike [] [] = Unit {0}
+  PagesAlike (ms ∷ xs) (ns ∷ ys) = MarksAlike set fonts ms ns × PagesAlike xs ys
+  PagesAlike _ _ = ⊥
+
+  one_alike : (g : Grid) (p : PageOf) → IsMarked g set ds p → IsMarked g fonts ds p → MarksAlike set fonts (marks_or_none (marks_alone (page_marks g set ds p.commands))) (marks_or_none (marks_alone (page_marks g fonts ds p.commands)))
+  one_alike g p x y =
+      let h = marks_alike one contents set fonts alike g ds p.commands (x.marks, x.state) (y.marks, y.state) x.defined y.defined in
+      let left = ap (λ (o : Marking). marks_or_none (marks_alone o)) x.defined in
+      let right = ap (λ (o : Marking). marks_or_none (marks_alone o)) y.defined in
+      subst (λ (ms : List Mark). MarksAlike set fonts ms (marks_or_none (marks_alone (page_marks g fonts ds p.commands)))) (sym left) (subst (MarksAlike set fonts x.marks) (sym right) h)
+
+  pages_alike : (g : Grid) (ps : List PageOf) → Each (IsMarked g set ds) ps → Each (IsMarked g fonts ds) ps → PagesAlike (marks_of_each g set ds ps) (marks_of_each g fonts ds ps)
+  pages_alike g [] x y = tt
+  pages_alike g (p ∷ ps) x y = (one_alike g p x.0 y.0, pages_alike g ps x.1 y.1)
+
+  -- a page costs no more than with the fonts that serve
+  page_light : (g : Grid) (budget : ℕ) (p : PageOf) → IsMarked g fonts ds p → marks_cost fonts (marks_or_none (marks_alone (page_marks g fonts ds p.commands))) ≤ budget → marks_cost set (marks_or_none (marks_alone (page_marks g set ds p.commands))) ≤ budget
+  page_light g budget p y light = by (page_marks g set ds p.commands) refl
+    where
+      by : (o : Marking) → page_marks g set ds p.commands ≡ o → marks_cost set (marks_or_none (marks_alone o)) ≤ budget
+      by None e = let n = no_cost set in omega (arith, n)
+      by (Some r) e =
+          let x : IsMarked g set ds p = record { marks = r.0; state = r.1; defined = e } in
+          let h = subst (λ (ms : List Mark). MarksAlike set fonts ms (marks_or_none (marks_alone (page_marks g fonts ds p.commands)))) (ap (λ (q : Marking). marks_or_none (marks_alone q)) e) (one_alike g p x y) in
+          let c = cost_alike set fonts twins r.0 (marks_or_none (marks_alone (page_marks g fonts ds p.commands))) h in
+          omega (arith, c, light)
+
+  pub all_light : (g : Grid) (budget : ℕ) (ps : List PageOf) → Each (IsMarked g fonts ds) ps → Each (λ (ms : List Mark). marks_cost fonts ms ≤ budget) (marks_of_each g fonts ds ps) → Each (λ (ms : List Mark). marks_cost set ms ≤ budget) (marks_of_each g set ds ps)
+  all_light g budget [] y light = tt
+  all_light g budget (p ∷ ps) y light = (page_light g budget p y.0 light.0, all_light g budget ps y.1 light.1)
+
+  -- and it has the same headers
+  specials_alike : (ms ns : List Mark) → MarksAlike set fonts ms ns → specials_in ms ≡ specials_in ns
+  specials_alike [] [] h = refl
+  specials_alike [] (n ∷ ns) h = absurd h
+  specials_alike (m ∷ ms) [] h = absurd h
+  specials_alike (OfGlyph x ∷ ms) (OfGlyph y ∷ ns) h = specials_alike ms ns h.1
+  specials_alike (OfRule x ∷ ms) (OfRule y ∷ ns) h = specials_alike ms ns h.1
+  specials_alike (OfSpecial x ∷ ms) (OfSpecial y ∷ ns) h = ap (λ (s : Special). s.bytes ∷ specials_in ms) h.0 ∙ ap (λ (xs : List (List ℕ)). y.bytes ∷ xs) (specials_alike ms ns h.1)
+  specials_alike (m ∷ ms) (n ∷ ns) h = absurd h.0
+
+  all_specials : (xs ys : List (List Mark)) → PagesAlike xs ys → specials_of xs ≡ specials_of ys
+  all_specials [] [] h = refl
+  all_specials [] (y ∷ ys) h = absurd h
+  all_specials (x ∷ xs) [] h = absurd h
+  all_specials (x ∷ xs) (y ∷ ys) h = ap (λ (s : List (List ℕ)). s ++ specials_of xs) (specials_alike x y h.0) ∙ ap (λ (s : List (List ℕ)). specials_in y ++ s) (all_specials xs ys h.1)
+
+  pub same_headers : (g : Grid) (given : List (List ℕ)) (ps : List PageOf) → Each (IsMarked g set ds) ps → Each (IsMarked g fonts ds) ps → header_names given (marks_of_each g set ds ps) ≡ header_names given (marks_of_each g fonts ds ps)
+  same_headers g given ps x y =
+      ap (λ (s : List (List ℕ)). with_names [] (given ++ names_in s)) (all_specials (marks_of_each g set ds ps) (marks_of_each g fonts ds ps) (pages_alike g ps x y))

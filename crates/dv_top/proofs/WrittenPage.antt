@@ -1,20 +1,17 @@
 -- One page, from the calls that write it.
-use Rattle.std.proofs.Common.{◌≡◌, ◌<◌, ◌≤◌, ◌+◌, ◌^◌, ℕ, ℤ, pos, zero, suc, List, [], ◌∷◌, ◌++◌, length, map, take, drop, get_or, Option, Some, None, Result, Bool, arith, refl, sym, ap, subst, ◌∙◌}
-use Rattle.std.specs.Prelude.{slice_get}
-use Rattle.std.specs.List.{AllByRecursion, Contains}
+use Rattle.std.proofs.Common.{◌≡◌, ◌<◌, ℕ, ℤ, List, ◌++◌, length, map, get_or, Some, Result, Bool, arith, sym, ap, subst, ◌∙◌}
+use Rattle.std.specs.List.{Contains}
 use Rattle.std.specs.Result.{IsErr}
-use Rattle.std.proofs.lemmas.List.{length-map}
 use Rattle.std.proofs.lemmas.List.Elements.{All-from_recursion}
 use Rattle.dv_base.specs.declared.tray.Tray.{Ghosts}
 use Rattle.dv_base.specs.declared.tray.WriteFault.{WriteFault}
 use Rattle.positions.specs.Mark.{Mark}
-use Rattle.dvi_doc.specs.Document.{Document, PageOf}
-use Rattle.dvi_doc.specs.Grammar.{IsDoc}
+use Rattle.dvi_doc.specs.Document.{PageOf}
 use Rattle.dvi_doc.specs.Laws.{OneDocument}
-use Rattle.dvi_doc.specs.View.{IsRead, Outline, ReadDoc, outline, page_view}
+use Rattle.dvi_doc.specs.View.{IsRead, Outline, ReadDoc, page_view}
 use Rattle.dvi_doc.specs.declared.page.Page.{Page}
 use Rattle.font_set.specs.Fonts.{FontSet}
-use Rattle.vf_expand.specs.Grid.{Grid, State}
+use Rattle.vf_expand.specs.Grid.{State}
 use Rattle.vf_expand.specs.Marks.{Outcome, marks_alone}
 use Rattle.vf_expand.specs.Page.{IsPage}
 use Rattle.vf_expand.specs.Takes.{IsAmong, RefusesNext, Stops, TookPage}
@@ -22,20 +19,14 @@ use Rattle.vf_expand.specs.declared.fault.WalkFault.{WalkFault}
 use Rattle.vf_expand.specs.declared.fault.WalkFault.TheVariants as fault
 use Rattle.ps_emit.specs.Pages.{page_begin, page_calls}
 use Rattle.ps_emit.specs.Sheet.{first_sheet, marks_lines, marks_sheet, page_end}
-use Rattle.ps_emit.specs.Shown.{Holds, fonts_of, out_of, pass_of, sheet_of}
+use Rattle.ps_emit.specs.Shown.{Holds, out_of, pass_of, sheet_of}
 use Rattle.ps_emit.specs.Taken.{AllTakeable, IsTakeable, Refused, Took}
 use Rattle.ps_emit.specs.TakenLaws.{refused_cut}
 use Rattle.ps_emit.specs.Written.{Cut, Out, Writes, Wrote, cut_later, cut_longer, cut_writes, then_writes}
 use Rattle.ps_emit.specs.declared.emitter.Emitter.{Emitter}
 use Rattle.dv_top.specs.Printing.{label_of, with_marks}
 use Rattle.dv_top.proofs.DocPages.{page_seen, there}
-
--- as many pages were found as any document of the bytes has
-pub page_many : OneDocument → (r : ReadDoc) (d : Document) → IsRead r → IsDoc r.bytes d → length r.pages ≡ length d.pages
-page_many one r d (e, is, shows) h =
-    ap (λ (xs : List Outline). length xs) shows.1
-    ∙ length-map e.pages outline
-    ∙ ap (λ (x : Document). length x.pages) (one r.bytes e d is h)
+use Rattle.dv_top.proofs.PagesAt.{page_many}
 
 -- ---- the page
 

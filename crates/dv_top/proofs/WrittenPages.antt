@@ -1,36 +1,36 @@
 -- The pages of a document, written one after another, the section that they make, and the whole text.
-use Rattle.std.proofs.Common.{◌≡◌, ◌<◌, ◌≤◌, ◌+◌, ◌^◌, ℕ, zero, suc, List, [], ◌∷◌, ◌++◌, length, map, take, drop, Option, Some, None, Result, Bool, true, false, arith, refl, sym, ap, subst, ◌∙◌, add-one, append_assoc, append-nil}
-use Rattle.std.specs.Prelude.{slice_get, codes, unsigned_abs, Ok, Err}
-use Rattle.std.specs.List.{AllByRecursion}
+use Rattle.std.proofs.Common.{◌≡◌, ◌<◌, ◌≤◌, ◌+◌, ◌-◌, ◌^◌, ℕ, zero, suc, List, [], ◌∷◌, ◌++◌, length, map, take, drop, Option, Some, None, Result, Bool, arith, refl, sym, ap, subst, ◌∙◌, append_assoc, append-nil}
+use Rattle.std.specs.Prelude.{slice_get, codes, IfOk, Ok, Err}
+use Rattle.std.specs.List.{AllByRecursion, sum}
 use Rattle.std.specs.Result.{IsErr}
 use Rattle.std.proofs.lemmas.List.{length-map, drop_all}
 use Rattle.dv_base.specs.declared.tray.Tray.{Ghosts}
 use Rattle.positions.specs.Mark.{Mark}
 use Rattle.dvi_ops.specs.Command.{Definition}
-use Rattle.dvi_doc.specs.Document.{Document, PageOf}
+use Rattle.dvi_doc.specs.Document.{PageOf}
 use Rattle.dvi_doc.specs.View.{ReadDoc, page_view, Outline}
 use Rattle.dvi_doc.specs.declared.page.Page.{Page}
 use Rattle.font_set.specs.Fonts.{FontSet}
 use Rattle.vf_expand.specs.Grid.{Grid, State}
 use Rattle.vf_expand.specs.Marks.{marks_alone}
-use Rattle.vf_expand.specs.Page.{IsPage, page_count, page_marks, pages_count}
-use Rattle.vf_expand.proofs.Later.{count_front, count_next}
-use Rattle.sections.specs.Used.{HasTaken, Used, is_used, used_in}
+use Rattle.vf_expand.specs.Page.{IsPage, page_marks}
+use Rattle.sections.specs.Used.{HasTaken, Used, is_used}
 use Rattle.ps_subset.specs.FontText.{fonts_lines}
 use Rattle.ps_subset.specs.Prolog.{line}
 use Rattle.ps_emit.specs.Laws.{AllGoodPages, CallsMakeText, UsageGivesFonts}
 use Rattle.ps_emit.specs.Letters.{fonts_used}
-use Rattle.ps_emit.specs.Pages.{PrintedPage, bytes_of_job, job_calls, marks_of, page_calls, pages_calls, sections_calls}
+use Rattle.ps_emit.specs.Pages.{PrintedPage, bytes_of_job, marks_of, page_calls, pages_calls, section_calls, sections_calls}
 use Rattle.ps_emit.specs.Setup.{prologue_of, trailer_of}
 use Rattle.ps_emit.specs.Shown.{Holds, comments_of, pass_of}
-use Rattle.ps_emit.specs.Written.{Cut, Out, Writes, Wrote, cut_later, cut_longer, cut_writes, then_writes, wrote_more, wrote_nothing}
+use Rattle.ps_emit.specs.Written.{Cut, Out, Writes, Wrote, counted, cut_later, cut_longer, cut_writes, wrote_more, wrote_nothing}
 use Rattle.ps_emit.specs.declared.emitter.Emitter.{Emitter}
 use Rattle.ps_emit.specs.declared.setup.Setup.{Setup}
 use Rattle.dv_top.specs.Each.{Each}
-use Rattle.dv_top.specs.Printing.{in_sections, joined, printed_from, where_marked, with_marks, work_of}
-use Rattle.dv_top.specs.Walkable.{WritesSeen}
-use Rattle.dv_top.specs.Writing.{IsReady, marks_in, marks_or_none}
-use Rattle.dv_top.proofs.Lists.{same_some, split_at, take_more}
+use Rattle.dv_top.specs.Printing.{in_sections, joined, marks_alone_of, marks_of_each, marks_or_none, printed_from, where_marked, with_marks}
+use Rattle.dv_top.specs.Wrote.{WritesSeen}
+use Rattle.dv_top.specs.Writing.{IsReady, marks_in}
+use Rattle.sections.specs.Sections.{all_marks}
+use Rattle.dv_top.proofs.Lists.{cons_head, cons_tail, same_some, sum_cons, split_at, take_more}
 use Rattle.dv_top.proofs.WrittenPage.{still_begun}
 
 -- the code's pages are as many
@@ -44,15 +44,6 @@ front_cut a b x y r err f = cut_writes (a ++ b) x y r err (cut_longer a b x y f)
 -- what an emitter writes by what it was made with
 pub held_text : {T : Type 0} {G : Ghosts T} (a b : Emitter T G) (f : Bool → Bool → List ℕ) (P : List ℕ → Type 0) → Holds a b → P (f (comments_of b) (pass_of b)) → P (f (comments_of a) (pass_of a))
 held_text a b f P h p = subst (λ c. P (f c (pass_of a))) h.comments_same (subst (λ d. P (f (comments_of b) d)) h.pass_same p)
-
--- ---- counts
-
-pub count_room : (set : FontSet) (ds : List Definition) (ps : List PageOf) (k : ℕ) (p : PageOf) → slice_get ps k ≡ Some p → pages_count set ds (take k ps) + page_count set ds p.commands ≤ pages_count set ds ps
-count_room set ds ps k p at =
-    subst (λ qs. pages_count set ds (take k ps) + page_count set ds p.commands ≤ pages_count set ds qs) (split_at ps k p at) (count_front set ds (take k ps) p (drop (suc k) ps))
-
-pub count_step : (set : FontSet) (ds : List Definition) (ps : List PageOf) (k : ℕ) (p : PageOf) → slice_get ps k ≡ Some p → pages_count set ds (take (k + 1) ps) ≡ pages_count set ds (take k ps) + page_count set ds p.commands
-count_step set ds ps k p at = ap (pages_count set ds) (take_more ps k p at) ∙ count_next set ds (take k ps) p
 
 -- ---- the calls of pages
 
@@ -86,44 +77,53 @@ module _ (g : Grid) (set : FontSet) (ds : List Definition) where
   joined_some n ps q None rest h e = absurd (cc)
   joined_some n ps q (Some more) rest h e = (more, same_some (q ∷ more) rest e, h)
 
-  next_page : (k : ℕ) (ps : List PageOf) (p : PageOf) (r : IsReady g set ds p) (rest : List PrintedPage) → slice_get ps k ≡ Some p → printed_from g set ds (k + 1) (drop k ps) ≡ Some rest
-      → Next (k + 1 + 1) (drop (k + 1) ps) (with_marks p (k + 1) r.marks) rest
-  next_page k ps p r rest at e =
-      let here : printed_from g set ds (k + 1) (p ∷ drop (suc k) ps) ≡ Some rest = subst (λ (xs : List PageOf). printed_from g set ds (k + 1) xs ≡ Some rest) (drop_here ps k p at) e in
-      let marked : joined (Some (with_marks p (k + 1) r.marks)) (printed_from g set ds (k + 1 + 1) (drop (suc k) ps)) ≡ Some rest =
-      sym (ap (λ (o : Option PrintedPage). joined o (printed_from g set ds (k + 1 + 1) (drop (suc k) ps))) (page_marked (k + 1) p r)) ∙ here in
-      subst (λ (m : ℕ). Next (k + 1 + 1) (drop m ps) (with_marks p (k + 1) r.marks) rest) (sym (add-one k))
-      (joined_some (k + 1 + 1) (drop (suc k) ps) (with_marks p (k + 1) r.marks) (printed_from g set ds (k + 1 + 1) (drop (suc k) ps)) rest refl marked)
+  next_page : (n k : ℕ) (ps : List PageOf) (p : PageOf) (r : IsReady g set ds p) (rest : List PrintedPage) → slice_get ps k ≡ Some p → printed_from g set ds (n + k) (drop k ps) ≡ Some rest
+      → Next (n + (k + 1)) (drop (k + 1) ps) (with_marks p (n + k) r.marks) rest
+  next_page n k ps p r rest at e =
+      let here : printed_from g set ds (n + k) (p ∷ drop (suc k) ps) ≡ Some rest = subst (λ (xs : List PageOf). printed_from g set ds (n + k) xs ≡ Some rest) (drop_here ps k p at) e in
+      let marked : joined (Some (with_marks p (n + k) r.marks)) (printed_from g set ds (n + k + 1) (drop (suc k) ps)) ≡ Some rest =
+      sym (ap (λ (o : Option PrintedPage). joined o (printed_from g set ds (n + k + 1) (drop (suc k) ps))) (page_marked (n + k) p r)) ∙ here in
+      let far : n + k + 1 ≡ n + (k + 1) = omega arith in
+      let one : suc k ≡ k + 1 = omega arith in
+      subst (λ (m : ℕ). Next (n + (k + 1)) (drop m ps) (with_marks p (n + k) r.marks) rest) one
+      (subst (λ (m : ℕ). Next m (drop (suc k) ps) (with_marks p (n + k) r.marks) rest) far
+      (joined_some (n + k + 1) (drop (suc k) ps) (with_marks p (n + k) r.marks) (printed_from g set ds (n + k + 1) (drop (suc k) ps)) rest refl marked))
 
-  -- the pages before this one are written, and the others are still to be printed
-  abbrev pub Before : ℕ → List PageOf → List PrintedPage → Bool → Bool → Out → Out → Type 0
-  Before k ps pages comments pass x y =
-      (front : List PrintedPage) × (rest : List PrintedPage) × (front ++ rest ≡ pages) × (printed_from g set ds (k + 1) (drop k ps) ≡ Some rest) × Wrote (pages_calls comments pass front) x y
+  -- the pages before this one are written, and the others are still to be printed; the first has the number n
+  abbrev pub Before : ℕ → ℕ → List PageOf → List PrintedPage → Bool → Bool → Out → Out → Type 0
+  Before n k ps pages comments pass x y =
+      (front : List PrintedPage) × (rest : List PrintedPage) × (front ++ rest ≡ pages) × (printed_from g set ds (n + k) (drop k ps) ≡ Some rest) × Wrote (pages_calls comments pass front) x y
 
-  pub before_first : (ps : List PageOf) (pages : List PrintedPage) (comments pass : Bool) (x : Out) → x.count < 2 ^ 64 → printed_from g set ds 1 ps ≡ Some pages → Before 0 ps pages comments pass x x
-  before_first ps pages comments pass x fits e = ([], pages, refl, e, wrote_nothing x fits)
-
-  pub before_next : (k : ℕ) (ps : List PageOf) (pages : List PrintedPage) (comments pass : Bool) (x y z : Out) (p : PageOf) (r : IsReady g set ds p) → slice_get ps k ≡ Some p
-      → Before k ps pages comments pass x y → Wrote (page_calls comments pass (with_marks p (k + 1) r.marks)) y z → Before (k + 1) ps pages comments pass x z
-  before_next k ps pages comments pass x y z p r at (front, rest, whole, printed, wrote) now = step (next_page k ps p r rest at printed)
+  pub before_first : (n : ℕ) (ps : List PageOf) (pages : List PrintedPage) (comments pass : Bool) (x : Out) → x.count < 2 ^ 64 → printed_from g set ds n ps ≡ Some pages → Before n 0 ps pages comments pass x x
+  before_first n ps pages comments pass x fits e =
+      let none : n ≡ n + 0 = omega arith in
+      ([], pages, refl, subst (λ (m : ℕ). printed_from g set ds m (drop 0 ps) ≡ Some pages) none (ap (λ (qs : List PageOf). printed_from g set ds n qs) (drop_none ps) ∙ e), wrote_nothing x fits)
     where
-      step : Next (k + 1 + 1) (drop (k + 1) ps) (with_marks p (k + 1) r.marks) rest → Before (k + 1) ps pages comments pass x z
+      drop_none : (qs : List PageOf) → drop 0 qs ≡ qs
+      drop_none [] = refl
+      drop_none (q ∷ qs) = refl
+
+  pub before_next : (n k : ℕ) (ps : List PageOf) (pages : List PrintedPage) (comments pass : Bool) (x y z : Out) (p : PageOf) (r : IsReady g set ds p) → slice_get ps k ≡ Some p
+      → Before n k ps pages comments pass x y → Wrote (page_calls comments pass (with_marks p (n + k) r.marks)) y z → Before n (k + 1) ps pages comments pass x z
+  before_next n k ps pages comments pass x y z p r at (front, rest, whole, printed, wrote) now = step (next_page n k ps p r rest at printed)
+    where
+      step : Next (n + (k + 1)) (drop (k + 1) ps) (with_marks p (n + k) r.marks) rest → Before n (k + 1) ps pages comments pass x z
       step (more, is, after) = (
-        front ++ with_marks p (k + 1) r.marks ∷ [],
+        front ++ with_marks p (n + k) r.marks ∷ [],
         more,
-        append_assoc front (with_marks p (k + 1) r.marks ∷ []) more ∙ ap (λ (qs : List PrintedPage). front ++ qs) is ∙ whole,
+        append_assoc front (with_marks p (n + k) r.marks ∷ []) more ∙ ap (λ (qs : List PrintedPage). front ++ qs) is ∙ whole,
         after,
-        subst (λ (text : List ℕ). Wrote text x z) (sym (calls_one comments pass front (with_marks p (k + 1) r.marks)))
-            (wrote_more (pages_calls comments pass front) (page_calls comments pass (with_marks p (k + 1) r.marks)) x y z wrote now),
+        subst (λ (text : List ℕ). Wrote text x z) (sym (calls_one comments pass front (with_marks p (n + k) r.marks)))
+            (wrote_more (pages_calls comments pass front) (page_calls comments pass (with_marks p (n + k) r.marks)) x y z wrote now),
       )
 
-  pub cut_here : (k : ℕ) (ps : List PageOf) (pages : List PrintedPage) (comments pass : Bool) (x y z : Out) (p : PageOf) (r : IsReady g set ds p) → slice_get ps k ≡ Some p
-      → Before k ps pages comments pass x y → Cut (page_calls comments pass (with_marks p (k + 1) r.marks)) y z → Cut (pages_calls comments pass pages) x z
-  cut_here k ps pages comments pass x y z p r at (front, rest, whole, printed, wrote) now = step (next_page k ps p r rest at printed)
+  pub cut_here : (n k : ℕ) (ps : List PageOf) (pages : List PrintedPage) (comments pass : Bool) (x y z : Out) (p : PageOf) (r : IsReady g set ds p) → slice_get ps k ≡ Some p
+      → Before n k ps pages comments pass x y → Cut (page_calls comments pass (with_marks p (n + k) r.marks)) y z → Cut (pages_calls comments pass pages) x z
+  cut_here n k ps pages comments pass x y z p r at (front, rest, whole, printed, wrote) now = step (next_page n k ps p r rest at printed)
     where
-      step : Next (k + 1 + 1) (drop (k + 1) ps) (with_marks p (k + 1) r.marks) rest → Cut (pages_calls comments pass pages) x z
+      step : Next (n + (k + 1)) (drop (k + 1) ps) (with_marks p (n + k) r.marks) rest → Cut (pages_calls comments pass pages) x z
       step (more, is, after) =
-          let q : PrintedPage = with_marks p (k + 1) r.marks in
+          let q : PrintedPage = with_marks p (n + k) r.marks in
           let text : (pages_calls comments pass front ++ page_calls comments pass q) ++ pages_calls comments pass more ≡ pages_calls comments pass pages =
           ap (λ (t : List ℕ). t ++ pages_calls comments pass more) (sym (calls_one comments pass front q))
           ∙ sym (calls_more comments pass (front ++ q ∷ []) more)
@@ -133,59 +133,106 @@ module _ (g : Grid) (set : FontSet) (ds : List Definition) where
           (cut_later (pages_calls comments pass front) (page_calls comments pass q) x y z wrote now))
 
   -- what a call says of a page, whichever marks it has, is said of this one
-  pub page_said : (P : List ℕ → Type 0) (h : Grid) (a b c d : Bool) (r : ReadDoc) (k : ℕ) (p : PageOf) → IsPage r k p → (ready : IsReady g set ds p) → h ≡ g → b ≡ a → d ≡ c
-      → ((q : PageOf) → IsPage r k q → (marks : List Mark) (state : State) → page_marks h set ds q.commands ≡ Some (marks, state) → P (page_calls b d (with_marks q (k + 1) marks)))
-      → P (page_calls a c (with_marks p (k + 1) ready.marks))
-  page_said P h a b c d r k p is ready kept same passes f =
+  pub page_said : (P : List ℕ → Type 0) (h : Grid) (a b c d : Bool) (r : ReadDoc) (place number m : ℕ) (p : PageOf) → IsPage r place p → (ready : IsReady g set ds p) → h ≡ g → b ≡ a → d ≡ c → number ≡ m
+      → ((q : PageOf) → IsPage r place q → (marks : List Mark) (state : State) → page_marks h set ds q.commands ≡ Some (marks, state) → P (page_calls b d (with_marks q number marks)))
+      → P (page_calls a c (with_marks p m ready.marks))
+  page_said P h a b c d r place number m p is ready kept same passes counted f =
       let defined = subst (λ (x : Grid). page_marks x set ds p.commands ≡ Some (ready.marks, ready.state)) (sym kept) ready.defined in
-      subst (λ x. P (page_calls x c (with_marks p (k + 1) ready.marks))) same
-      (subst (λ y. P (page_calls b y (with_marks p (k + 1) ready.marks))) passes (f p is ready.marks ready.state defined))
+      subst (λ x. P (page_calls x c (with_marks p m ready.marks))) same
+      (subst (λ y. P (page_calls b y (with_marks p m ready.marks))) passes
+      (subst (λ (k : ℕ). P (page_calls b d (with_marks p k ready.marks))) counted (f p is ready.marks ready.state defined)))
 
   -- all pages are written
-  pub all_written : (k : ℕ) (ps : List PageOf) (pages : List PrintedPage) (comments pass : Bool) (x y : Out) → length ps ≤ k → Before k ps pages comments pass x y → Wrote (pages_calls comments pass pages) x y
-  all_written k ps pages comments pass x y few (front, rest, whole, printed, wrote) =
+  pub all_written : (n k : ℕ) (ps : List PageOf) (pages : List PrintedPage) (comments pass : Bool) (x y : Out) → length ps ≤ k → Before n k ps pages comments pass x y → Wrote (pages_calls comments pass pages) x y
+  all_written n k ps pages comments pass x y few (front, rest, whole, printed, wrote) =
       let none : [] ≡ rest =
-      same_some [] rest (sym (ap (λ (xs : List PageOf). printed_from g set ds (k + 1) xs) (drop_all k ps few)) ∙ printed) in
+      same_some [] rest (sym (ap (λ (xs : List PageOf). printed_from g set ds (n + k) xs) (drop_all k ps few)) ∙ printed) in
       let same : front ≡ pages = sym (append-nil front) ∙ ap (λ (qs : List PrintedPage). front ++ qs) none ∙ whole in
       subst (λ (qs : List PrintedPage). Wrote (pages_calls comments pass qs) x y) same wrote
 
   -- ---- the section
 
   -- the marks of the pages are those of the printed pages
-  pub marks_same : (n : ℕ) (ps : List PageOf) (pages : List PrintedPage) → printed_from g set ds n ps ≡ Some pages → marks_in g set ds ps ≡ marks_of pages
-  marks_same n [] [] e = refl
-  marks_same n [] (q ∷ qs) e = absurd cc
-  marks_same n (p ∷ ps) pages e = by (λ more h. marks_same (n + 1) ps more h) (marks_alone (page_marks g set ds p.commands)) refl (printed_from g set ds (n + 1) ps) refl e
+  pub each_same : (n : ℕ) (ps : List PageOf) (pages : List PrintedPage) → printed_from g set ds n ps ≡ Some pages → marks_of_each g set ds ps ≡ marks_alone_of pages
+  each_same n [] [] e = refl
+  each_same n [] (q ∷ qs) e = absurd cc
+  each_same n (p ∷ ps) pages e = by (λ more h. each_same (n + 1) ps more h) (marks_alone (page_marks g set ds p.commands)) refl (printed_from g set ds (n + 1) ps) refl e
     where
-      by : ((more : List PrintedPage) → printed_from g set ds (n + 1) ps ≡ Some more → marks_in g set ds ps ≡ marks_of more)
+      by : ((more : List PrintedPage) → printed_from g set ds (n + 1) ps ≡ Some more → marks_of_each g set ds ps ≡ marks_alone_of more)
           → (o : Option (List Mark)) → marks_alone (page_marks g set ds p.commands) ≡ o → (os : Option (List PrintedPage)) → printed_from g set ds (n + 1) ps ≡ os → joined (where_marked p n o) os ≡ Some pages
-          → marks_or_none (marks_alone (page_marks g set ds p.commands)) ++ marks_in g set ds ps ≡ marks_of pages
+          → marks_or_none (marks_alone (page_marks g set ds p.commands)) ∷ marks_of_each g set ds ps ≡ marks_alone_of pages
       by more None is os rest h = absurd cc
       by more (Some marks) is None rest h = absurd cc
       by more (Some marks) is (Some qs) rest h =
-          ap (λ o. marks_or_none o ++ marks_in g set ds ps) is ∙ ap (λ ms. marks ++ ms) (more qs rest) ∙ ap marks_of (same_some (with_marks p n marks ∷ qs) pages h)
+          ap (λ o. marks_or_none o ∷ marks_of_each g set ds ps) is ∙ ap (λ (ms : List (List Mark)). marks ∷ ms) (more qs rest) ∙ ap marks_alone_of (same_some (with_marks p n marks ∷ qs) pages h)
 
-  -- without pages there is no section
-  pub no_section : (ps : List PageOf) (pages : List PrintedPage) (comments pass : Bool) (x : Out) → x.count < 2 ^ 64 → length ps ≡ 0 → printed_from g set ds 1 ps ≡ Some pages → Wrote (sections_calls comments set pass (in_sections pages)) x x
-  no_section [] [] comments pass x fits h e = wrote_nothing x fits
-  no_section [] (q ∷ qs) comments pass x fits h e = absurd (cc)
-  no_section (p ∷ ps) pages comments pass x fits h e = absurd (omega (arith, h))
+  pub marks_same : (n : ℕ) (ps : List PageOf) (pages : List PrintedPage) → printed_from g set ds n ps ≡ Some pages → marks_in g set ds ps ≡ marks_of pages
+  marks_same n ps pages e = ap all_marks (each_same n ps pages e) ∙ all_marked pages
+    where
+      all_marked : (qs : List PrintedPage) → all_marks (marks_alone_of qs) ≡ marks_of qs
+      all_marked [] = refl
+      all_marked (q ∷ qs) = ap (λ (ms : List Mark). q.marks ++ ms) (all_marked qs)
+
+  -- the section of some pages, with the fonts of what was taken
+  pub section_text : UsageGivesFonts → (n : ℕ) (ps : List PageOf) (pages : List PrintedPage) (comments pass : Bool) (u : Used) → printed_from g set ds n ps ≡ Some pages
+      → HasTaken u (marks_in g set ds ps) → u.fonts ≡ length set.fonts
+      → line (codes "bos") ++ (fonts_lines (fonts_used set (is_used u)) ++ (pages_calls comments pass pages ++ line (codes "eos"))) ≡ section_calls comments set pass pages
+  section_text law n ps pages comments pass u e taken same =
+      let fonts = law set u (marks_of pages) (subst (HasTaken u) (marks_same n ps pages e) taken) same in
+      ap (λ fs. line (codes "bos") ++ (fonts_lines fs ++ (pages_calls comments pass pages ++ line (codes "eos")))) fonts
+
+  -- ---- the sections
 
   some_joined : (o : Option PrintedPage) (os : Option (List PrintedPage)) → joined o os ≡ Some [] → ⊥
   some_joined None os e = cc
   some_joined (Some q) None e = cc
   some_joined (Some q) (Some qs) e = cc
 
-  -- the section of some pages, with the fonts of what was taken
-  pub section_text : UsageGivesFonts → (ps : List PageOf) (pages : List PrintedPage) (comments pass : Bool) (u : Used) → 0 < length ps → printed_from g set ds 1 ps ≡ Some pages
-      → HasTaken u (marks_in g set ds ps) → u.fonts ≡ length set.fonts
-      → line (codes "bos") ++ (fonts_lines (fonts_used set (is_used u)) ++ (pages_calls comments pass pages ++ line (codes "eos"))) ≡ sections_calls comments set pass (in_sections pages)
-  section_text law [] pages comments pass u h e taken same = absurd (omega arith)
-  section_text law (p ∷ ps) [] comments pass u h e taken same = absurd (some_joined _ _ e)
-  section_text law (p ∷ ps) (q ∷ qs) comments pass u h e taken same =
-      let fonts = law set u (marks_of (q ∷ qs)) (subst (HasTaken u) (marks_same 1 (p ∷ ps) (q ∷ qs) e) taken) same in
-      ap (λ fs. line (codes "bos") ++ (fonts_lines fs ++ (pages_calls comments pass (q ∷ qs) ++ line (codes "eos")))) fonts
-      ∙ sym (append-nil (line (codes "bos") ++ (fonts_lines (fonts_used set (used_in (marks_of (q ∷ qs)))) ++ (pages_calls comments pass (q ∷ qs) ++ line (codes "eos")))))
+  -- some of the pages in a row are printed as some of the printed pages in a row
+  pub printed_drop : (n m : ℕ) (ps : List PageOf) (pages : List PrintedPage) → printed_from g set ds n ps ≡ Some pages → printed_from g set ds (n + m) (drop m ps) ≡ Some (drop m pages)
+  printed_drop n zero ps pages e = subst (λ (k : ℕ). printed_from g set ds k (drop 0 ps) ≡ Some (drop 0 pages)) none (start ps pages e)
+    where
+      none : n ≡ n + 0
+      none = omega arith
+
+      start : (qs : List PageOf) (rs : List PrintedPage) → printed_from g set ds n qs ≡ Some rs → printed_from g set ds n (drop 0 qs) ≡ Some (drop 0 rs)
+      start [] [] h = h
+      start [] (r ∷ rs) h = h
+      start (q ∷ qs) [] h = h
+      start (q ∷ qs) (r ∷ rs) h = h
+  printed_drop n (suc m) [] [] e = refl
+  printed_drop n (suc m) [] (q ∷ qs) e = absurd cc
+  printed_drop n (suc m) (p ∷ ps) [] e = absurd (some_joined _ _ e)
+  printed_drop n (suc m) (p ∷ ps) (q ∷ qs) e = subst (λ (k : ℕ). printed_from g set ds k (drop m ps) ≡ Some (drop m qs)) far (printed_drop (n + 1) m ps qs (behind (where_marked p n (marks_alone (page_marks g set ds p.commands))) (printed_from g set ds (n + 1) ps) e))
+    where
+      far : n + 1 + m ≡ n + suc m
+      far = omega arith
+
+      behind : (o : Option PrintedPage) (os : Option (List PrintedPage)) → joined o os ≡ Some (q ∷ qs) → os ≡ Some qs
+      behind None os h = absurd cc
+      behind (Some r) None h = absurd cc
+      behind (Some r) (Some rs) h = ap Some (cons_tail r q rs qs (same_some (r ∷ rs) (q ∷ qs) h))
+
+  pub printed_take : (n m : ℕ) (ps : List PageOf) (pages : List PrintedPage) → printed_from g set ds n ps ≡ Some pages → printed_from g set ds n (take m ps) ≡ Some (take m pages)
+  printed_take n zero [] [] e = refl
+  printed_take n zero [] (q ∷ qs) e = absurd cc
+  printed_take n zero (p ∷ ps) [] e = refl
+  printed_take n zero (p ∷ ps) (q ∷ qs) e = refl
+  printed_take n (suc m) [] [] e = refl
+  printed_take n (suc m) [] (q ∷ qs) e = absurd cc
+  printed_take n (suc m) (p ∷ ps) [] e = absurd (some_joined _ _ e)
+  printed_take n (suc m) (p ∷ ps) (q ∷ qs) e = by (λ rs k. printed_take (n + 1) m ps rs k) (where_marked p n (marks_alone (page_marks g set ds p.commands))) refl (printed_from g set ds (n + 1) ps) refl e
+    where
+      by : ((rs : List PrintedPage) → printed_from g set ds (n + 1) ps ≡ Some rs → printed_from g set ds (n + 1) (take m ps) ≡ Some (take m rs))
+          → (o : Option PrintedPage) → where_marked p n (marks_alone (page_marks g set ds p.commands)) ≡ o → (os : Option (List PrintedPage)) → printed_from g set ds (n + 1) ps ≡ os → joined o os ≡ Some (q ∷ qs)
+          → joined (where_marked p n (marks_alone (page_marks g set ds p.commands))) (printed_from g set ds (n + 1) (take m ps)) ≡ Some (q ∷ take m qs)
+      by more None is os rest h = absurd cc
+      by more (Some r) is None rest h = absurd cc
+      by more (Some r) is (Some rs) rest h =
+          let all = same_some (r ∷ rs) (q ∷ qs) h in
+          ap (λ (o : Option PrintedPage). joined o (printed_from g set ds (n + 1) (take m ps))) is
+          ∙ ap (joined (Some r)) (more rs rest)
+          ∙ ap (λ (z : List PrintedPage). Some z) (ap (λ (z : PrintedPage). z ∷ take m rs) (cons_head r q rs qs all) ∙ ap (λ (zs : List PrintedPage). q ∷ take m zs) (cons_tail r q rs qs all))
 
   -- ---- pages that are ready, printed
 
@@ -207,35 +254,148 @@ module _ (g : Grid) (set : FontSet) (ds : List Definition) where
       }
 
   -- any pages that are printed are those
-  pub printed_good : (ps : List PageOf) (pages : List PrintedPage) → length ps < 2 ^ 31 → Each (IsReady g set ds) ps → printed_from g set ds 1 ps ≡ Some pages → AllGoodPages set pages
-  printed_good ps pages few h e =
-      let all = all_printed 1 ps (omega arith) h in
+  pub printed_good : (n : ℕ) (ps : List PageOf) (pages : List PrintedPage) → n + length ps < 2 ^ 32 → Each (IsReady g set ds) ps → printed_from g set ds n ps ≡ Some pages → AllGoodPages set pages
+  printed_good n ps pages few h e =
+      let all = all_printed n ps few h in
       subst (AllGoodPages set) (same_some all.pages pages (sym all.printed ∙ e)) all.good
 
   -- what was written of the pages leaves the output begun
-  pub pages_begun : (ps : List PageOf) (text : List PrintedPage → List ℕ) (x y : Out) → length ps < 2 ^ 31 → Each (IsReady g set ds) ps → 0 < x.seen.begun
-      → ((pages : List PrintedPage) → printed_from g set ds 1 ps ≡ Some pages → Wrote (text pages) x y) → 0 < y.seen.begun
-  pages_begun ps text x y few all h f =
-      let printed = all_printed 1 ps (omega arith) all in
+  pub pages_begun : (n : ℕ) (ps : List PageOf) (text : List PrintedPage → List ℕ) (x y : Out) → n + length ps < 2 ^ 32 → Each (IsReady g set ds) ps → 0 < x.seen.begun
+      → ((pages : List PrintedPage) → printed_from g set ds n ps ≡ Some pages → Wrote (text pages) x y) → 0 < y.seen.begun
+  pages_begun n ps text x y few all h f =
+      let printed = all_printed n ps few all in
       still_begun (text printed.pages) x y h (f printed.pages printed.printed)
 
--- pages in sections are good
-pub sections_good : (set : FontSet) (pages : List PrintedPage) → AllGoodPages set pages → AllByRecursion (AllGoodPages set) (in_sections pages)
-sections_good set [] h = tt
-sections_good set (p ∷ ps) h = (h, tt)
+good_part : (set : FontSet) (m : ℕ) (pages : List PrintedPage) → AllGoodPages set pages → AllGoodPages set (take m pages) × AllGoodPages set (drop m pages)
+good_part set zero [] h = (tt, tt)
+good_part set (suc m) [] h = (tt, tt)
+good_part set zero (p ∷ ps) h = (tt, h)
+good_part set (suc m) (p ∷ ps) h = let more = good_part set m ps h.1 in ((h.0, more.0), more.1)
 
--- the calls of an emitter that writes comments and passes nothing on make the text
-pub text_made : {X E : Type 0} → CallsMakeText → (comments pass : Bool) (s : Setup) (set : FontSet) (pages : List PrintedPage) (a b c : Out) (r : Result X E) → comments ≡ true → pass ≡ false → a ≡ b → AllGoodPages set pages
-    → Writes (prologue_of comments s [] ++ (sections_calls comments set pass (in_sections pages) ++ trailer_of comments)) a c r → Writes (bytes_of_job true s (work_of set pages)) b c r
-text_made {X} {E} make comments pass s set pages a b c r told passes same good h =
-    let one : Writes (prologue_of true s [] ++ (sections_calls true set pass (in_sections pages) ++ trailer_of true)) a c r =
-    subst (λ (w : Bool). Writes (prologue_of w s [] ++ (sections_calls w set pass (in_sections pages) ++ trailer_of w)) a c r) told h in
-    let two : Writes (job_calls true s (work_of set pages)) a c r =
-    subst (λ (w : Bool). Writes (prologue_of true s [] ++ (sections_calls true set w (in_sections pages) ++ trailer_of true)) a c r) passes one in
-    let three : Writes (bytes_of_job true s (work_of set pages)) a c r = subst (λ (t : List ℕ). Writes t a c r) (make true s (work_of set pages) (sections_good set pages good)) two in
-    subst (λ (x : Out). Writes (bytes_of_job true s (work_of set pages)) x c r) same three
+-- pages in sections are good
+pub sections_good : (set : FontSet) (plan : List ℕ) (pages : List PrintedPage) → AllGoodPages set pages → AllByRecursion (AllGoodPages set) (in_sections plan pages)
+sections_good set [] pages h = tt
+sections_good set (n ∷ ns) pages h = let parts = good_part set n pages h in (parts.0, sections_good set ns (drop n pages) parts.1)
+
+-- the sections so far, and one more
+sections_more : (comments : Bool) (set : FontSet) (pass : Bool) (xs : List (List PrintedPage)) (ys : List PrintedPage) → sections_calls comments set pass (xs ++ ys ∷ []) ≡ sections_calls comments set pass xs ++ section_calls comments set pass ys
+sections_more comments set pass [] ys = append-nil (section_calls comments set pass ys)
+sections_more comments set pass (x ∷ xs) ys =
+    ap (λ (t : List ℕ). section_calls comments set pass x ++ t) (sections_more comments set pass xs ys)
+    ∙ sym (append_assoc (section_calls comments set pass x) (sections_calls comments set pass xs) (section_calls comments set pass ys))
+
+sections_both : (comments : Bool) (set : FontSet) (pass : Bool) (xs ys : List (List PrintedPage)) → sections_calls comments set pass (xs ++ ys) ≡ sections_calls comments set pass xs ++ sections_calls comments set pass ys
+sections_both comments set pass [] ys = refl
+sections_both comments set pass (x ∷ xs) ys =
+    ap (λ (t : List ℕ). section_calls comments set pass x ++ t) (sections_both comments set pass xs ys)
+    ∙ sym (append_assoc (section_calls comments set pass x) (sections_calls comments set pass xs) (sections_calls comments set pass ys))
+
+drop_at : (k m : ℕ) (pages : List PrintedPage) → k ≡ m → drop k pages ≡ drop m pages
+drop_at k m pages e = ap (λ (n : ℕ). drop n pages) e
+
+drop_drop : (m n : ℕ) (pages : List PrintedPage) → drop m (drop n pages) ≡ drop (n + m) pages
+drop_drop m zero [] = drop_at m (0 + m) [] (omega arith)
+drop_drop m zero (p ∷ ps) = drop_at m (0 + m) (p ∷ ps) (omega arith)
+drop_drop zero (suc n) [] = drop_at (suc n) (suc n + 0) [] (omega arith)
+drop_drop (suc m) (suc n) [] = drop_at (suc n) (suc n) [] refl ∙ none (suc n) (suc n + suc m)
+  where
+    none : (j k : ℕ) → drop j (let ps : List PrintedPage = [] in ps) ≡ drop k (let ps : List PrintedPage = [] in ps)
+    none zero zero = refl
+    none zero (suc k) = refl
+    none (suc j) zero = refl
+    none (suc j) (suc k) = refl
+drop_drop m (suc n) (p ∷ ps) = drop_drop m n ps ∙ drop_at (suc (n + m)) (suc n + m) (p ∷ ps) (omega arith)
+
+-- the sections by the first lengths and by the others
+parted_here : (plan rest : List ℕ) (pages : List PrintedPage) → in_sections (plan ++ rest) pages ≡ in_sections plan pages ++ in_sections rest (drop (sum plan) pages)
+parted_here [] rest [] = refl
+parted_here [] rest (p ∷ ps) = refl
+parted_here (n ∷ ns) rest pages =
+    ap (λ (xs : List (List PrintedPage)). take n pages ∷ xs)
+    (parted_here ns rest (drop n pages) ∙ ap (λ (qs : List PrintedPage). in_sections ns (drop n pages) ++ in_sections rest qs) (drop_drop (sum ns) n pages ∙ ap (λ (m : ℕ). drop m pages) (sym (sum_cons n ns))))
+
+pub sum_more : (xs : List ℕ) (k n : ℕ) → slice_get xs k ≡ Some n → sum (take (k + 1) xs) ≡ sum (take k xs) + n
+sum_more xs k n at = ap sum (take_more xs k n at) ∙ sum_both (take k xs) n
+  where
+    sum_both : (ys : List ℕ) (m : ℕ) → sum (ys ++ m ∷ []) ≡ sum ys + m
+    sum_both [] m = let one : sum (m ∷ []) ≡ m + sum [] = sum_cons m [] in let none : sum [] ≡ 0 = refl in omega (arith, one, none)
+    sum_both (y ∷ ys) m =
+        let more = sum_both ys m in
+        let step : sum (y ∷ ys) ≡ y + sum ys = sum_cons y ys in
+        let long : sum (y ∷ (ys ++ m ∷ [])) ≡ y + sum (ys ++ m ∷ []) = sum_cons y (ys ++ m ∷ []) in
+        omega (arith, more, step, long)
+
+-- what is written by the first sections is a front of what all make
+module _ (comments : Bool) (set : FontSet) (pass : Bool) (plan : List ℕ) (pages : List PrintedPage) (k n : ℕ) (at : slice_get plan k ≡ Some n) where
+  abbrev pub Section : List ℕ
+  Section = section_calls comments set pass (take n (drop (sum (take k plan)) pages))
+
+  first_one : in_sections (take (k + 1) plan) pages ≡ in_sections (take k plan) pages ++ take n (drop (sum (take k plan)) pages) ∷ []
+  first_one = ap (λ (ns : List ℕ). in_sections ns pages) (take_more plan k n at) ∙ parted_here (take k plan) (n ∷ []) pages
+
+  pub section_next : (x y z : Out) → Wrote (sections_calls comments set pass (in_sections (take k plan) pages)) x y → Wrote Section y z → Wrote (sections_calls comments set pass (in_sections (take (k + 1) plan) pages)) x z
+  section_next x y z f h =
+      subst (λ (t : List ℕ). Wrote t x z) (sym (ap (sections_calls comments set pass) first_one ∙ sections_more comments set pass (in_sections (take k plan) pages) (take n (drop (sum (take k plan)) pages))))
+      (wrote_more (sections_calls comments set pass (in_sections (take k plan) pages)) Section x y z f h)
+
+  pub section_cut : (x y z : Out) → Wrote (sections_calls comments set pass (in_sections (take k plan) pages)) x y → Cut Section y z → Cut (sections_calls comments set pass (in_sections plan pages)) x z
+  section_cut x y z f h =
+      let whole : sections_calls comments set pass (in_sections plan pages) ≡ (sections_calls comments set pass (in_sections (take k plan) pages) ++ Section) ++ sections_calls comments set pass (in_sections (drop (suc k) plan) (drop (sum (take k plan ++ n ∷ [])) pages)) =
+      ap (λ (ns : List ℕ). sections_calls comments set pass (in_sections ns pages)) (sym (split_at plan k n at) ∙ sym (append_assoc (take k plan) (n ∷ []) (drop (suc k) plan)))
+      ∙ ap (sections_calls comments set pass) (parted_here (take k plan ++ n ∷ []) (drop (suc k) plan) pages)
+      ∙ sections_both comments set pass (in_sections (take k plan ++ n ∷ []) pages) (in_sections (drop (suc k) plan) (drop (sum (take k plan ++ n ∷ [])) pages))
+      ∙ ap (λ (t : List ℕ). t ++ sections_calls comments set pass (in_sections (drop (suc k) plan) (drop (sum (take k plan ++ n ∷ [])) pages)))
+      (ap (sections_calls comments set pass) (parted_here (take k plan) (n ∷ []) pages) ∙ sections_more comments set pass (in_sections (take k plan) pages) (take n (drop (sum (take k plan)) pages))) in
+      subst (λ (t : List ℕ). Cut t x z) (sym whole)
+      (cut_longer (sections_calls comments set pass (in_sections (take k plan) pages) ++ Section) (sections_calls comments set pass (in_sections (drop (suc k) plan) (drop (sum (take k plan ++ n ∷ [])) pages))) x z
+      (cut_later (sections_calls comments set pass (in_sections (take k plan) pages)) Section x y z f h))
 
 -- what a tray shows of that
 pub seen_writes : {X E : Type 0} (text : List ℕ) (x y : Out) (r : Result X E) → Writes text x y r → WritesSeen text x.seen y.seen r
 seen_writes text x y (Ok v) w = record { bytes = w.bytes; keeps = w.keeps }
 seen_writes text x y (Err e) w = record { taken = w.taken; bytes = w.bytes; rose = w.rose; keeps = w.keeps }
+
+-- the same with the same grid by another name
+pub grid_said : (set : FontSet) (ds : List Definition) (n : ℕ) (ps : List PageOf) (pages : List PrintedPage) (g h : Grid) → g ≡ h → printed_from g set ds n ps ≡ Some pages → printed_from h set ds n ps ≡ Some pages
+grid_said set ds n ps pages g h same e = subst (λ (x : Grid). printed_from x set ds n ps ≡ Some pages) same e
+
+pub sum_room : (xs : List ℕ) (k n : ℕ) → slice_get xs k ≡ Some n → sum (take k xs) + n ≤ sum xs
+sum_room [] k n e = absurd (cc)
+sum_room (x ∷ xs) zero n e =
+    let same = same_some x n e in
+    let step : sum (x ∷ xs) ≡ x + sum xs = sum_cons x xs in
+    let none : sum (take 0 (x ∷ xs)) ≡ 0 = refl in
+    omega (arith, same, step, none)
+sum_room (x ∷ xs) (suc k) n e =
+    let more = sum_room xs k n e in
+    let step : sum (x ∷ xs) ≡ x + sum xs = sum_cons x xs in
+    let front : sum (take (suc k) (x ∷ xs)) ≡ x + sum (take k xs) = sum_cons x (take k xs) in
+    omega (arith, more, step, front)
+
+-- the pages of one section, as they are printed
+pub printed_part : (g : Grid) (set : FontSet) (ds : List Definition) (done n : ℕ) (ps : List PageOf) (pages : List PrintedPage) → printed_from g set ds 1 ps ≡ Some pages → printed_from g set ds (done + 1) (take n (drop done ps)) ≡ Some (take n (drop done pages))
+printed_part g set ds done n ps pages e =
+    let far : 1 + done ≡ done + 1 = omega arith in
+    printed_take g set ds (done + 1) n (drop done ps) (drop done pages) (subst (λ (m : ℕ). printed_from g set ds m (drop done ps) ≡ Some (drop done pages)) far (printed_drop g set ds 1 done ps pages e))
+
+-- the calls of an emitter make the text of the job
+pub text_made : {X E : Type 0} → CallsMakeText → (comments pass c d : Bool) (s : Setup) (headers : List (List ℕ)) (set : FontSet) (plan : List ℕ) (pages : List PrintedPage) (x y z : Out) (r : Result X E) → c ≡ comments → d ≡ pass → x ≡ y → AllGoodPages set pages
+    → Writes (prologue_of c s headers ++ (sections_calls c set d (in_sections plan pages) ++ trailer_of c)) x z r
+    → Writes (bytes_of_job comments s (record { headers = headers; fonts = set; pass = pass; sections = in_sections plan pages })) y z r
+text_made {X} {E} make comments pass c d s headers set plan pages x y z r told passes same good h =
+    let one = subst (λ (b : Bool). Writes (prologue_of b s headers ++ (sections_calls b set d (in_sections plan pages) ++ trailer_of b)) x z r) told h in
+    let two = subst (λ (b : Bool). Writes (prologue_of comments s headers ++ (sections_calls comments set b (in_sections plan pages) ++ trailer_of comments)) x z r) passes one in
+    let three = subst (λ (t : List ℕ). Writes t x z r) (make comments s (record { headers = headers; fonts = set; pass = pass; sections = in_sections plan pages }) (sections_good set plan pages good)) two in
+    subst (λ (o : Out). Writes (bytes_of_job comments s (record { headers = headers; fonts = set; pass = pass; sections = in_sections plan pages })) o z r) same three
+
+-- a section by the place where it begins
+pub section_here : (P : List ℕ → Type 0) (comments : Bool) (set : FontSet) (pass : Bool) (pages : List PrintedPage) (done n sum : ℕ) → done ≡ sum → P (section_calls comments set pass (take (done + n - done) (drop done pages)))
+    → P (section_calls comments set pass (take n (drop sum pages)))
+section_here P comments set pass pages done n sum e h =
+    let one : done + n - done ≡ n = omega arith in
+    subst (λ (m : ℕ). P (section_calls comments set pass (take n (drop m pages)))) e (subst (λ (m : ℕ). P (section_calls comments set pass (take m (drop done pages)))) one h)
+
+-- how many bytes were counted from nothing
+pub count_of : {E : Type 0} (text : List ℕ) (x y : Out) (r : Result ℕ E) → x.count ≡ 0 → Writes text x y r → IfOk r (λ n. n ≡ y.count) → IfOk r (λ n. n ≡ counted 0 (length text))
+count_of text x y (Ok n) none w h = h ∙ w.count ∙ ap (λ (k : ℕ). counted k (length text)) none
+count_of text x y (Err e) none w h = h

@@ -1,5 +1,5 @@
 -- Why pages can't be walked over.
-use Rattle.std.specs.Prelude.{◌≡◌, ◌<◌, ◌⊎◌, List}
+use Rattle.std.specs.Prelude.{◌≡◌, ◌<◌, ◌⊎◌, List, Option, Some, None}
 use Rattle.positions.specs.declared.canvas.NoFault.{NoFault}
 use Rattle.dvi_ops.specs.Command.{Definition}
 use Rattle.dvi_doc.specs.Document.{PageOf}
@@ -27,3 +27,17 @@ IsWalkReason g set ds pages o = (fault : WalkFault NoFault) × WalkTells set fau
 -- The pages can't be printed: memory was refused, or they can't be walked over.
 abbrev pub CheckFails : Grid → FontSet → List Definition → List PageOf → Outcome → Type 0
 CheckFails g set ds pages o = (o ≡ outcome.OutOfMemory) ⊎ IsWalkReason g set ds pages o
+
+-- the same fault of a walk, where it isn't one of the canvas
+abbrev pub alone : {F : Type 0} → WalkFault F → Option (WalkFault NoFault)
+alone (walk.StackUnder spot) = Some (walk.StackUnder spot)
+alone (walk.StackLeft spot) = Some (walk.StackLeft spot)
+alone (walk.StackDeep spot) = Some (walk.StackDeep spot)
+alone (walk.NestDeep id code) = Some (walk.NestDeep id code)
+alone walk.TooManySteps = Some walk.TooManySteps
+alone (walk.Overflow spot) = Some (walk.Overflow spot)
+alone (walk.Canvas f) = None
+
+-- The outcome of a walk whose canvas takes memory: that was refused, or the outcome tells of the fault.
+abbrev pub StopTells : {F : Type 0} → FontSet → WalkFault F → Outcome → Type 0
+StopTells set fault o = (o ≡ outcome.OutOfMemory) ⊎ ((f : WalkFault NoFault) × (alone fault ≡ Some f) × WalkTells set f o)

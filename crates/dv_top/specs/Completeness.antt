@@ -5,19 +5,25 @@ use Rattle.dv_base.specs.Shelf.{Contents, Told}
 use Rattle.dv_base.specs.Tray.{Seen}
 use Rattle.dv_base.specs.UnitPixels.{IsUsable}
 use Rattle.dv_base.specs.declared.units.Units.{Units}
+use Rattle.positions.specs.Mark.{Mark}
 use Rattle.dvi_ops.specs.Command.{Definition}
 use Rattle.dvi_doc.specs.Document.{Document, PageOf}
 use Rattle.dvi_doc.specs.Grammar.{IsDoc}
+use Rattle.dv_words.specs.Jobs.{PrintJob}
+use Rattle.dv_words.specs.Jobs.Job.{Printing}
+use Rattle.dv_words.specs.Words.{Asks}
 use Rattle.font_set.specs.Alike.{AreRight}
 use Rattle.font_set.specs.Fonts.{FontSet, raster_bytes}
 use Rattle.font_set.specs.declared.want.Want.TheVariants as wants
 use Rattle.vf_expand.specs.Page.{IsShallowPage, pages_count}
-use Rattle.ps_emit.specs.Pages.{PrintedPage}
+use Rattle.sections.specs.Cost.{marks_cost}
 use Rattle.dv_top.specs.Covered.{CoversPages}
 use Rattle.dv_top.specs.Each.{Each}
-use Rattle.dv_top.specs.Job.{Job, job_of}
-use Rattle.dv_top.specs.Printing.{chosen, grid_of, most_steps, printed_from, units_of}
-use Rattle.dv_top.specs.Sources.{most_input}
+use Rattle.dv_top.specs.Headers.{header_names}
+use Rattle.dv_top.specs.Printing.{IsMarked, chosen, grid_of, marks_of_each, most_steps, printed, request_of, units_across, units_down}
+use Rattle.dv_top.specs.Reading.{most_input}
+use Rattle.dv_top.specs.Reasons.{most_header, most_headers}
+use Rattle.dv_top.specs.Selecting.{IsChoice}
 use Rattle.dv_top.specs.declared.outcome.Outcome.{Outcome}
 use Rattle.dv_top.specs.declared.outcome.Outcome.TheVariants as outcome
 
@@ -32,9 +38,24 @@ pub record Serve (contents : Contents) (units : Units) (ds : List Definition) (p
   pub few : length fonts.fonts ≤ 1000
   pub room : raster_bytes fonts.fonts ≤ 2 ^ 30
 
--- A job that is known to be printable: its input is held and is a document, whose units are usable; fonts from held files serve the
--- pages that are printed; with them the marks of these pages are defined, no push is too deep, and the commands are not too many.
-pub record Plain (job : Job) (told : Told) : Type 0 where
+-- The file of this name is held, and has at most so many bytes.
+pub record IsHeldWithin (contents : Contents) (limit : ℕ) (name : List ℕ) : Type 0 where
+  pub bytes : List ℕ
+  pub held : contents name ≡ Some bytes
+  pub few : length bytes ≤ limit
+
+-- The marks of each of these pages, with these fonts.
+abbrev pub marks_with : Document → PrintJob → FontSet → List PageOf → List (List Mark)
+marks_with doc job fonts pages = marks_of_each (grid_of doc job) fonts doc.fonts pages
+
+-- the names of the job's headers, where the pages have these fonts
+abbrev pub headers_with : Document → PrintJob → FontSet → List (List ℕ)
+headers_with doc job fonts = header_names job.headers (marks_with doc job fonts (chosen doc job))
+
+-- A job that is known to be printable: its input is held and is a document, which has the pages that are asked for, and whose units are
+-- usable; fonts from held files serve the chosen pages; with them the marks of these pages are defined, no push is too deep, and the
+-- commands are not too many; the headers are not too many, and are held within their limit; and each printed page is within the budget.
+pub record Plain (job : PrintJob) (told : Told) : Type 0 where
   pub contents : Contents
   pub tells : told.held ≡ Some contents
   pub bytes : List ℕ
@@ -42,13 +63,17 @@ pub record Plain (job : Job) (told : Told) : Type 0 where
   pub few : length bytes ≤ most_input
   pub doc : Document
   pub is : IsDoc bytes doc
-  pub usable : IsUsable (units_of doc job.dpi)
+  pub choice : IsChoice doc (request_of job)
+  pub usable : IsUsable (units_across doc job)
+  pub usable_down : IsUsable (units_down doc job)
   pub fonts : FontSet
-  pub serve : Serve contents (units_of doc job.dpi) doc.fonts (chosen doc job) fonts
-  pub pages : List PrintedPage
-  pub printed : printed_from (grid_of doc job.dpi) fonts doc.fonts 1 (chosen doc job) ≡ Some pages
-  pub shallow : Each (λ p. IsShallowPage (grid_of doc job.dpi) fonts doc.fonts p.commands) (chosen doc job)
+  pub serve : Serve contents (units_across doc job) doc.fonts (chosen doc job) fonts
+  pub marked : Each (IsMarked (grid_of doc job) fonts doc.fonts) (chosen doc job)
+  pub shallow : Each (λ p. IsShallowPage (grid_of doc job) fonts doc.fonts p.commands) (chosen doc job)
   pub steps : pages_count fonts doc.fonts (chosen doc job) ≤ most_steps
+  pub few_headers : length (headers_with doc job fonts) ≤ most_headers
+  pub headers : Each (IsHeldWithin contents most_header) (headers_with doc job fonts)
+  pub light : Each (λ ms. marks_cost fonts ms ≤ job.memory) (marks_with doc job fonts (printed doc job))
 
 -- all went well, or memory was refused
 abbrev pub IsDoneOrRefused : Outcome → Type 0
@@ -59,4 +84,4 @@ IsDoneOrRefused _ = ⊥
 -- What can be printed is printed, where neither the shelf nor the tray has a fault and memory is given.
 abbrev pub IsComplete : List (List ℕ) → Told → Told → Seen → Seen → Outcome → Type 0
 IsComplete words told later old new o =
-    (job : Job) → job_of words ≡ Some job → Plain job told → (Rose told.faults later.faults → ⊥) → (Rose old.faults new.faults → ⊥) → IsDoneOrRefused o
+    (job : PrintJob) → Asks words (Printing job) → Plain job told → (Rose told.faults later.faults → ⊥) → (Rose old.faults new.faults → ⊥) → IsDoneOrRefused o

@@ -1,38 +1,55 @@
--- A job that can be printed, the text that it makes, and the events that it owes.
-use Rattle.std.specs.Prelude.{◌≡◌, ℕ, ◌≤◌, List, ◌++◌, length, Some, true}
+-- A job that can be printed, the text that it makes, the events that it owes, and its warnings.
+use Rattle.std.specs.Prelude.{◌≡◌, ℕ, ◌≤◌, List, ◌++◌, length, Some}
 use Rattle.dv_base.specs.Shelf.{Told}
+use Rattle.dv_words.specs.Jobs.{PrintJob}
 use Rattle.vf_expand.specs.Page.{IsShallowPage, pages_count}
+use Rattle.sections.specs.Cost.{marks_cost}
 use Rattle.ps_subset.specs.Marks.{without_texts}
 use Rattle.ps_subset.specs.Run.{events}
 use Rattle.ps_subset.specs.State.{Event}
 use Rattle.ps_emit.specs.Expected.{expected}
-use Rattle.ps_emit.specs.Pages.{PrintedPage, bytes_of_job}
+use Rattle.ps_emit.specs.Pages.{PrintedPage, Work, bytes_of_job}
 use Rattle.ps_emit.specs.declared.setup.Setup.{Setup}
-use Rattle.dv_top.specs.Covered.{Covered, IsNumbered}
+use Rattle.dv_top.specs.Covered.{Covered, IsNumbered, chosen_marks, doc_of, set_of}
 use Rattle.dv_top.specs.Each.{Each}
-use Rattle.dv_top.specs.Job.{Job}
-use Rattle.dv_top.specs.Printing.{IsSetupOf, chosen, grid_of, most_steps, printed_from, work_of}
+use Rattle.dv_top.specs.Headers.{HeldEach}
+use Rattle.dv_top.specs.Papers.{paper_of}
+use Rattle.dv_top.specs.Printing.{IsSetupOf, chosen, grid_of, most_steps, printed, printed_from, work_of}
+use Rattle.dv_top.specs.Reasons.{most_headers, names_for}
+use Rattle.dv_top.specs.Warnings.{warnings_of}
 
--- The fonts cover the pages that are printed, and are numbered in the order in which these select them; the marks of all pages are
--- defined, no push in them is too deep, and their commands are not too many.
-pub record Printable (job : Job) (told : Told) : Type 0 where
+-- The fonts cover the chosen pages, and are numbered in the order in which these select them; the marks of all pages are defined, no push
+-- in them is too deep, and their commands are not too many; the headers are held, and not too many; each page is within the budget.
+pub record Printable (job : PrintJob) (told : Told) : Type 0 where
   pub covered : Covered job told
-  pub numbered : IsNumbered covered.sources.set covered.sources.source.doc.fonts (chosen covered.sources.source.doc job)
+  pub numbered : IsNumbered (set_of covered) (doc_of covered).fonts (chosen (doc_of covered) job)
   pub pages : List PrintedPage
-  pub printed : printed_from (grid_of covered.sources.source.doc job.dpi) covered.sources.set covered.sources.source.doc.fonts 1 (chosen covered.sources.source.doc job) ≡ Some pages
-  pub shallow : Each (λ p. IsShallowPage (grid_of covered.sources.source.doc job.dpi) covered.sources.set covered.sources.source.doc.fonts p.commands) (chosen covered.sources.source.doc job)
-  pub few : pages_count covered.sources.set covered.sources.source.doc.fonts (chosen covered.sources.source.doc job) ≤ most_steps
+  pub are : printed_from (grid_of (doc_of covered) job) (set_of covered) (doc_of covered).fonts 1 (printed (doc_of covered) job) ≡ Some pages
+  pub shallow : Each (λ p. IsShallowPage (grid_of (doc_of covered) job) (set_of covered) (doc_of covered).fonts p.commands) (chosen (doc_of covered) job)
+  pub few : pages_count (set_of covered) (doc_of covered).fonts (chosen (doc_of covered) job) ≤ most_steps
+  pub few_headers : length (names_for covered) ≤ most_headers
+  pub headers : List (List ℕ)
+  pub held : HeldEach told (names_for covered) headers
+  pub light : Each (λ p. marks_cost (set_of covered) p.marks ≤ job.memory) pages
   pub setup : Setup
-  pub asked : IsSetupOf job (length pages) setup
+  pub asked : IsSetupOf job (paper_of job.paper (chosen_marks covered)) (length pages) setup
 
-module _ {job : Job} {told : Told} where
+module _ {job : PrintJob} {told : Told} where
+  -- what the text is made of: the headers, the fonts, the sections
+  abbrev pub work_for : Printable job told → Work
+  work_for p = work_of job (set_of p.covered) p.headers p.pages
+
   -- the whole text
   abbrev pub text_for : Printable job told → List ℕ
-  text_for p = bytes_of_job true p.setup (work_of p.covered.sources.set p.pages)
+  text_for p = bytes_of_job job.comments p.setup (work_for p)
 
   -- the events that are owed
   abbrev pub owed_for : Printable job told → List Event
-  owed_for p = expected true p.setup (work_of p.covered.sources.set p.pages)
+  owed_for p = expected job.comments p.setup (work_for p)
+
+  -- the lines that warn
+  abbrev pub warnings_for : Printable job told → List (List ℕ)
+  warnings_for p = warnings_of job.quiet job.pass_ps (set_of p.covered) (chosen_marks p.covered)
 
 -- The text runs, and but for the strings that are shown its events are those that are owed.
 pub record Shows (text : List ℕ) (owed : List Event) : Type 0 where

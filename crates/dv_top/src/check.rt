@@ -1,85 +1,120 @@
-//! The pages of a document are walked over before anything is written: their faults are found, and which characters they use.
-ghost use Rattle.std.specs.Prelude.{◌≡◌, ◌<◌, ◌≤◌, ◌+◌, ◌^◌, [], IfErr, OnOk, OnErr, IfOk, length};
-ghost use Rattle.dvi_doc.specs.Document.{Document};
-ghost use Rattle.dvi_doc.specs.Grammar.{IsDoc};
+//! The chosen pages are walked over before anything is written, and their faults are found.
+ghost use Rattle.std.specs.Prelude.{◌≡◌, ◌<◌, ◌≤◌, ◌^◌, IfErr, IfOk, List, OnOk, Some, [], length};
+ghost use Rattle.dvi_doc.specs.Document.{PageOf};
 ghost use Rattle.dvi_doc.specs.View.{IsRead};
 ghost use Rattle.dv_base.specs.UnitPixels.{pixels_of_one};
-ghost use Rattle.sections.specs.Used.{HasTaken, Takes};
-ghost use Rattle.dv_top.specs.Checking.{CheckFails, IsWalkReason};
+ghost use Rattle.dv_words.specs.JobView.{print_view};
+ghost use Rattle.dv_words.specs.Jobs.{PrintJob as TheJob};
+ghost use Rattle.vf_expand.specs.Given.{NamesGiven};
+ghost use Rattle.vf_expand.specs.Page.{pages_count};
+ghost use Rattle.dv_top.specs.Checking.{CheckFails, StopTells, alone};
 ghost use Rattle.dv_top.specs.Covered.{CoversPages};
 ghost use Rattle.dv_top.specs.Each.{Each};
-ghost use Rattle.vf_expand.specs.Page.{pages_count};
-ghost use Rattle.dv_top.specs.Printing.{grid_with, most_steps};
-ghost use Rattle.dv_top.specs.Writing.{HasRasters, IsReady, marks_in};
+ghost use Rattle.dv_top.specs.Noted.{HasNoted};
+ghost use Rattle.dv_top.specs.Printing.{marks_of_each, most_steps};
+ghost use Rattle.dv_top.specs.Selecting.{ArePages};
+ghost use Rattle.dv_top.specs.Writing.{HasRasters, IsReady};
 
 use crate::label::label;
+use crate::notes::{Notes, pages_go_on};
 use crate::outcome::Outcome;
 use crate::tell::of_walk;
-use dv_base::Conv;
+use dv_words::PrintJob;
 use dvi_doc::{Doc, one_document};
 use font_set::Fonts;
-use sections::Usage;
-use std::alloc::Global;
-use vf_expand::{Walker, pages_by_place};
+use positions::NoFault;
+use std::alloc::{AllocError, Global};
+use vf_expand::{WalkFault, Walker, pages_by_place};
 
-/// How many pixels a place may drift from the exact one.
-const DRIFT: i64 = 2;
+/// A fault that is not the canvas's own; else it is want of memory.
+fn alone(fault: WalkFault<AllocError>) -> Result<WalkFault<NoFault>, AllocError>
+    ensures { IfOk result (λ f. alone fault ≡ Some f) }
+{
+    match fault {
+        WalkFault::StackUnder(spot) => Ok(WalkFault::StackUnder(spot)),
+        WalkFault::StackLeft(spot) => Ok(WalkFault::StackLeft(spot)),
+        WalkFault::StackDeep(spot) => Ok(WalkFault::StackDeep(spot)),
+        WalkFault::NestDeep(font, code) => Ok(WalkFault::NestDeep(font, code)),
+        WalkFault::TooManySteps => Ok(WalkFault::TooManySteps),
+        WalkFault::Overflow(spot) => Ok(WalkFault::Overflow(spot)),
+        WalkFault::Canvas(error) => Err(error),
+    }
+}
 
-/// Walks over the pages, one after another, and lets `usage` take their marks, or answers why one of them can't be walked over.
+/// The outcome of a walk that stopped, whose canvas takes memory.
+fn of_stop(fonts: &Fonts, fault: WalkFault<AllocError>) -> Outcome
+    requires { NamesGiven fonts.now fault }
+    ensures { StopTells fonts.now fault result }
+{
+    match alone(fault) {
+        Ok(fault) => of_walk(fonts, fault),
+        Err(_) => Outcome::OutOfMemory,
+    }
+}
+
+/// Walks over the pages at these places, one after another, and lets `notes` take their marks, or answers why one of them can't be walked
+/// over.
 fn check_pages(
     doc: &Doc<'_>,
+    places: &[u32],
     fonts: &Fonts,
     walker: &mut Walker,
-    usage: &mut Usage,
+    notes: &mut Notes,
 ) -> Result<(), Outcome>
     requires read { IsRead doc.now }
     requires short { length doc.now.bytes < 2 ^ 31 }
-    requires covers { (d : Document) → IsDoc doc.now.bytes d → CoversPages fonts.now doc.now.fonts d.pages }
+    requires within { Each (λ place. place < length doc.now.pages) places.now }
+    requires covers { (pages : List PageOf) → ArePages doc.now places.now pages → CoversPages fonts.now doc.now.fonts pages }
     requires rasters { HasRasters fonts.now }
     requires across { walker.old.grid.across ≡ pixels_of_one fonts.now.units }
     requires begins { walker.old.steps ≡ 0 }
-    requires given { usage.old.fonts ≡ length fonts.now.fonts }
-    ensures ready { (d : Document) → IsDoc doc.now.bytes d → OnOk result (Each (IsReady walker.old.grid fonts.now doc.now.fonts) d.pages) }
-    ensures few { (d : Document) → IsDoc doc.now.bytes d → OnOk result (pages_count fonts.now doc.now.fonts d.pages ≤ most_steps) }
-    ensures takes { (d : Document) → IsDoc doc.now.bytes d → OnOk result (Takes usage.old usage.new (marks_in walker.old.grid fonts.now doc.now.fonts d.pages)) }
-    ensures reason { (d : Document) → IsDoc doc.now.bytes d → IfErr result (IsWalkReason walker.old.grid fonts.now doc.now.fonts d.pages) }
+    requires given { notes.old.used.fonts ≡ length fonts.now.fonts }
+    ensures ready { (pages : List PageOf) → ArePages doc.now places.now pages → OnOk result (Each (IsReady walker.old.grid fonts.now doc.now.fonts) pages) }
+    ensures few { (pages : List PageOf) → ArePages doc.now places.now pages → OnOk result (pages_count fonts.now doc.now.fonts pages ≤ most_steps) }
+    ensures noted { (pages : List PageOf) → ArePages doc.now places.now pages → (job : TheJob) → HasNoted job notes.old [] → OnOk result (HasNoted job notes.new (marks_of_each walker.old.grid fonts.now doc.now.fonts pages)) }
+    ensures reason { (pages : List PageOf) → ArePages doc.now places.now pages → IfErr result (CheckFails walker.old.grid fonts.now doc.now.fonts pages) }
     ensures kept { walker.new.grid ≡ walker.old.grid }
 {
     one_document();
     pages_by_place();
-    for page in 0..doc.pages().len() {
+    pages_go_on();
+    for place in places {
+        let place = *place as usize;
         // (a label is a number of 32 bits)
-        let _ = label(&doc.pages()[page]);
-        if let Err(fault) = walker.page(doc, page, fonts, usage) {
-            return Err(of_walk(fonts, fault));
+        let _ = label(&doc.pages()[place]);
+        notes.begin_page();
+        if let Err(fault) = walker.page(doc, place, fonts, notes) {
+            return Err(of_stop(fonts, fault));
         }
+        let _ = walker.steps();
     }
     let _ = walker.steps();
     Ok(())
 }
 
-/// Looks at all pages, and answers a walker for them and what they use, where they can be printed.
+/// Looks at the pages at these places, and answers what they say besides their marks on the paper, or why they can't be printed.
 pub fn check(
     alloc: Global,
     doc: &Doc<'_>,
-    conv: Conv,
+    places: &[u32],
     fonts: &Fonts,
-) -> Result<(Walker, Usage), Outcome>
+    walker: &mut Walker,
+    job: &PrintJob,
+) -> Result<Notes, Outcome>
     requires read { IsRead doc.now }
     requires short { length doc.now.bytes < 2 ^ 31 }
-    requires covers { (d : Document) → IsDoc doc.now.bytes d → CoversPages fonts.now doc.now.fonts d.pages }
+    requires within { Each (λ place. place < length doc.now.pages) places.now }
+    requires covers { (pages : List PageOf) → ArePages doc.now places.now pages → CoversPages fonts.now doc.now.fonts pages }
     requires rasters { HasRasters fonts.now }
-    requires conv { conv ≡ pixels_of_one fonts.now.units }
-    ensures grid { IfOk result (λ r. r.0 ≡ record { grid = grid_with conv; steps = 0 }) }
-    ensures ready { (d : Document) → IsDoc doc.now.bytes d → OnOk result (Each (IsReady (grid_with conv) fonts.now doc.now.fonts) d.pages) }
-    ensures few { (d : Document) → IsDoc doc.now.bytes d → OnOk result (pages_count fonts.now doc.now.fonts d.pages ≤ most_steps) }
-    ensures uses { (d : Document) → IsDoc doc.now.bytes d → IfOk result (λ r. HasTaken r.1 (marks_in (grid_with conv) fonts.now doc.now.fonts d.pages)) }
-    ensures same { IfOk result (λ r. r.1.fonts ≡ length fonts.now.fonts) }
-    ensures reason { (d : Document) → IsDoc doc.now.bytes d → IfErr result (CheckFails (grid_with conv) fonts.now doc.now.fonts d.pages) }
+    requires across { walker.old.grid.across ≡ pixels_of_one fonts.now.units }
+    requires begins { walker.old.steps ≡ 0 }
+    ensures ready { (pages : List PageOf) → ArePages doc.now places.now pages → OnOk result (Each (IsReady walker.old.grid fonts.now doc.now.fonts) pages) }
+    ensures few { (pages : List PageOf) → ArePages doc.now places.now pages → OnOk result (pages_count fonts.now doc.now.fonts pages ≤ most_steps) }
+    ensures noted { (pages : List PageOf) → ArePages doc.now places.now pages → IfOk result (λ notes. HasNoted (print_view job.now) notes (marks_of_each walker.old.grid fonts.now doc.now.fonts pages)) }
+    ensures reason { (pages : List PageOf) → ArePages doc.now places.now pages → IfErr result (CheckFails walker.old.grid fonts.now doc.now.fonts pages) }
+    ensures kept { walker.new.grid ≡ walker.old.grid }
 {
-    let mut walker = Walker::new(alloc, conv, conv, DRIFT)?;
-    let mut usage = Usage::new(alloc, fonts)?;
-    check_pages(doc, fonts, &mut walker, &mut usage)?;
-    walker.reset();
-    Ok((walker, usage))
+    let mut notes = Notes::new(alloc, fonts, job)?;
+    check_pages(doc, places, fonts, walker, &mut notes)?;
+    Ok(notes)
 }

@@ -15,17 +15,30 @@
 #![tactic(auto)]
 
 mod check;
+mod choose;
+mod copy;
+mod headers;
+mod heads;
 mod label;
+mod list;
 mod load;
 mod message;
+mod notes;
+#[cfg(test)]
+mod notes_tests;
 mod outcome;
+mod output;
+mod plan;
 mod print;
 mod read;
 mod run;
+mod sample;
+mod scale;
+mod setup;
 mod tell;
 #[cfg(test)]
 mod tests;
-mod words;
+mod warnings;
 mod write;
 
 pub use outcome::Outcome;

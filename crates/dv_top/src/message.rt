@@ -4,6 +4,8 @@ ghost use Rattle.std.specs.Option.{option_map};
 ghost use Rattle.std.specs.Fmt.{signed_decimal};
 ghost use Rattle.dv_base.specs.FileName.{text_of};
 ghost use Rattle.dv_top.specs.Message.{fault_text, message_of, named as named_with, outcome_text, pk_text, site_text, tfm_text, units_text, vf_text};
+ghost use Rattle.dv_top.specs.Groups.{group_of};
+ghost use Rattle.dv_top.specs.declared.message.Group.TheVariants.{OfFile, OfFont, OfOther, OfPlace};
 ghost use Rattle.dv_top.specs.Lines.{SaysLine};
 
 use crate::outcome::Outcome;
@@ -168,17 +170,24 @@ fn pair<I: Integer, J: Integer>(line: &mut Line, name: &[u8], font: &FileName, f
     line.number(second);
 }
 
-/// Appends what is said of an outcome: its name, and each of its fields behind a space.
-fn words(line: &mut Line, outcome: &Outcome)
+/// Appends a page's number, what it needs and what there is.
+fn too_big(line: &mut Line, page: u32, need: u64, have: u64)
     requires { length line.old ≤ 80 }
+    ensures { line.new ≡ line.old ++ named_with (codes "PageTooBig") (named_with (decimal page) (named_with (decimal need) (decimal have))) }
+{
+    line.text(b"PageTooBig ");
+    line.field(page);
+    line.field(need);
+    line.number(have);
+}
+
+/// Appends what is said of an outcome that names a file.
+fn file_words(line: &mut Line, outcome: &Outcome)
+    requires room { length line.old ≤ 80 }
+    requires group { group_of outcome.now ≡ OfFile }
     ensures { IfSome (outcome_text outcome.now) (λ text. line.new ≡ line.old ++ text) }
 {
     match outcome {
-        Outcome::Done => {}
-        Outcome::BadDvi { kind } => {
-            line.text(b"BadDvi ");
-            fault(line, *kind);
-        }
         Outcome::BadTfm { name, kind } => {
             file(line, b"BadTfm", name);
             line.text(b" ");
@@ -196,12 +205,35 @@ fn words(line: &mut Line, outcome: &Outcome)
         }
         Outcome::Missing { name } => file(line, b"Missing", name),
         Outcome::FileTooLong { name } => file(line, b"FileTooLong", name),
+        Outcome::ReadFault { name } => file(line, b"ReadFault", name),
+        _ => unreachable!(),
+    }
+}
+
+/// Appends what is said of an outcome that names the place of a command.
+fn place_words(line: &mut Line, outcome: &Outcome)
+    requires room { length line.old ≤ 80 }
+    requires group { group_of outcome.now ≡ OfPlace }
+    ensures { IfSome (outcome_text outcome.now) (λ text. line.new ≡ line.old ++ text) }
+{
+    match outcome {
         Outcome::UndefinedFont { spot } => site(line, b"UndefinedFont", spot),
         Outcome::NoFont { spot } => site(line, b"NoFont", spot),
         Outcome::StackUnder { spot } => site(line, b"StackUnder", spot),
         Outcome::StackLeft { spot } => site(line, b"StackLeft", spot),
         Outcome::StackDeep { spot } => site(line, b"StackDeep", spot),
         Outcome::Overflow { spot } => site(line, b"Overflow", spot),
+        _ => unreachable!(),
+    }
+}
+
+/// Appends what is said of an outcome that names a font.
+fn font_words(line: &mut Line, outcome: &Outcome)
+    requires room { length line.old ≤ 80 }
+    requires group { group_of outcome.now ≡ OfFont }
+    ensures { IfSome (outcome_text outcome.now) (λ text. line.new ≡ line.old ++ text) }
+{
+    match outcome {
         Outcome::NoChar { font, code: z } => code(line, b"NoChar", font, *z),
         Outcome::NoPacket { font, code: c } => code(line, b"NoPacket", font, *c),
         Outcome::NoGlyph { font, code: c } => code(line, b"NoGlyph", font, *c),
@@ -210,14 +242,84 @@ fn words(line: &mut Line, outcome: &Outcome)
             pair(line, b"GlyphTooBig", font, *code, *bytes);
         }
         Outcome::BadSize { font, size, design } => pair(line, b"BadSize", font, *size, *design),
+        _ => unreachable!(),
+    }
+}
+
+/// Appends what is said of an outcome that names none of these.
+fn other_words(line: &mut Line, outcome: &Outcome)
+    requires room { length line.old ≤ 80 }
+    requires group { group_of outcome.now ≡ OfOther }
+    ensures { IfSome (outcome_text outcome.now) (λ text. line.new ≡ line.old ++ text) }
+{
+    match outcome {
+        Outcome::Done => {}
+        Outcome::BadDvi { kind } => {
+            line.text(b"BadDvi ");
+            fault(line, *kind);
+        }
         Outcome::BadConv { units } => four(line, b"BadConv", units),
+        Outcome::NoSuchPage { number } => named(line, b"NoSuchPage", *number),
+        Outcome::TooManyPages => line.text(b"TooManyPages"),
+        Outcome::PageTooBig { page, need, have } => too_big(line, *page, *need, *have),
+        Outcome::TooManyHeaders => line.text(b"TooManyHeaders"),
+        Outcome::CopyTooLong => line.text(b"CopyTooLong"),
         Outcome::TooManyFonts => line.text(b"TooManyFonts"),
         Outcome::TooManySteps => line.text(b"TooManySteps"),
         Outcome::RasterSpace => line.text(b"RasterSpace"),
         Outcome::BadWords { index } => named(line, b"BadWords", *index),
-        Outcome::ReadFault { name } => file(line, b"ReadFault", name),
         Outcome::WriteFault => line.text(b"WriteFault"),
         Outcome::OutOfMemory => line.text(b"OutOfMemory"),
+        _ => unreachable!(),
+    }
+}
+
+/// What kind of thing an outcome names.
+#[derive(Clone, Copy)]
+enum Group {
+    OfFile,
+    OfPlace,
+    OfFont,
+    OfOther,
+}
+
+/// What the outcome names.
+fn names(outcome: &Outcome) -> Group
+    ensures { result ≡ group_of outcome.now }
+{
+    match outcome {
+        Outcome::BadTfm { .. }
+        | Outcome::BadPk { .. }
+        | Outcome::BadVf { .. }
+        | Outcome::Missing { .. }
+        | Outcome::FileTooLong { .. }
+        | Outcome::ReadFault { .. } => Group::OfFile,
+        Outcome::UndefinedFont { .. }
+        | Outcome::NoFont { .. }
+        | Outcome::StackUnder { .. }
+        | Outcome::StackLeft { .. }
+        | Outcome::StackDeep { .. }
+        | Outcome::Overflow { .. } => Group::OfPlace,
+        Outcome::NoChar { .. }
+        | Outcome::NoPacket { .. }
+        | Outcome::NoGlyph { .. }
+        | Outcome::NestDeep { .. }
+        | Outcome::GlyphTooBig { .. }
+        | Outcome::BadSize { .. } => Group::OfFont,
+        _ => Group::OfOther,
+    }
+}
+
+/// Appends what is said of an outcome: its name, and each of its fields behind a space.
+fn words(line: &mut Line, outcome: &Outcome)
+    requires { length line.old ≤ 80 }
+    ensures { IfSome (outcome_text outcome.now) (λ text. line.new ≡ line.old ++ text) }
+{
+    match names(outcome) {
+        Group::OfFile => file_words(line, outcome),
+        Group::OfPlace => place_words(line, outcome),
+        Group::OfFont => font_words(line, outcome),
+        Group::OfOther => other_words(line, outcome),
     }
 }
 

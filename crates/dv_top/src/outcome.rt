@@ -102,9 +102,25 @@ pub enum Outcome {
     BadConv {
         units: Units,
     },
+    /// A page of this number is asked for and isn't there.
+    NoSuchPage {
+        number: i64,
+    },
+    /// More than 1,000,000 pages would be printed.
+    TooManyPages,
+    /// The page of this number, counted from 1 in the order of the output, costs a printer what it needs, which is more than it has.
+    PageTooBig {
+        page: u32,
+        need: u64,
+        have: u64,
+    },
+    /// There are more than 64 headers.
+    TooManyHeaders,
+    /// A copy would have more than 2,147,483,647 bytes.
+    CopyTooLong,
     /// More than 1,000 fonts are selected.
     TooManyFonts,
-    /// The pages have more than 50,000,000 commands, those of packets counted.
+    /// The chosen pages have more than 50,000,000 commands, those of packets counted.
     TooManySteps,
     /// The bitmaps of all fonts would be more than 1,073,741,824 bytes.
     RasterSpace,

@@ -1,135 +1,199 @@
 //! A DVI file in, a text out.
-ghost use Rattle.std.specs.Prelude.{◌≡◌, ◌≤◌, ◌<◌, ◌^◌, ℕ, IfErr, IfOk, OnErr, OnOk, length, pos};
+ghost use Rattle.std.specs.Prelude.{◌≡◌, ◌≤◌, ◌<◌, ◌^◌, ℕ, IfErr, IfOk, List, Some, length, map};
 ghost use Rattle.dv_base.specs.Shelf.{Keeps, Told};
-ghost use Rattle.dv_base.specs.UnitPixels.{IsUsable, pixels_of_one};
-ghost use Rattle.dvi_doc.specs.Document.{Document};
+ghost use Rattle.dv_base.specs.UnitPixels.{pixels_of_one};
+ghost use Rattle.dvi_doc.specs.Document.{Document, PageOf};
 ghost use Rattle.dvi_doc.specs.Grammar.{IsDoc};
 ghost use Rattle.dvi_doc.specs.View.{IsRead};
+ghost use Rattle.dv_words.specs.JobView.{print_view};
 ghost use Rattle.font_set.specs.Stored.{AreUnits};
-ghost use Rattle.dv_top.specs.Covered.{CoversPages, Expands, IsNumbered};
+ghost use Rattle.dv_top.specs.Asked.{IsGoodJob};
+ghost use Rattle.positions.specs.Mark.{Mark};
+ghost use Rattle.pk_raster.specs.Font.{Bitmap};
+ghost use Rattle.pk_raster.specs.Laws.{AreRows};
+ghost use Rattle.font_set.specs.Fonts.{bitmap_at};
+ghost use Rattle.dv_top.specs.Covered.{Covered, chosen_marks, CoversPages, Expands, IsNumbered};
+ghost use Rattle.dv_top.specs.Output.{IsHeaded, IsLookedAt};
+ghost use Rattle.dv_top.specs.Noted.{HasNoted};
+ghost use Rattle.dv_top.specs.Writing.{IsWalkable};
 ghost use Rattle.dv_top.specs.Each.{Each};
-ghost use Rattle.dv_top.specs.Job.{IsGoodJob};
-ghost use Rattle.dv_top.specs.JobView.{job_view};
 ghost use Rattle.dv_top.specs.Loading.{GainsPages, LoadFails};
-ghost use Rattle.dv_top.specs.Printing.{IsSetupOf, chosen, grid_of, units_of};
-ghost use Rattle.dv_top.specs.Reasons.{NotDocument, NotScaled};
-ghost use Rattle.dv_top.specs.Sources.{Input, Source, no_fonts};
-ghost use Rattle.dv_top.specs.WholeRun.{LeavesBy};
+ghost use Rattle.dv_top.specs.Printed.{LeavesBy};
+ghost use Rattle.dv_top.specs.Reading.{Input};
+ghost use Rattle.dv_top.specs.Selecting.{ArePages, places_of};
+ghost use Rattle.dv_top.specs.Printing.{request_of};
+ghost use Rattle.dv_top.specs.Sources.{Selected, no_fonts};
 
 use crate::check::check;
+use crate::choose::choose;
+use crate::headers::headers_of;
 use crate::load::load_pages;
+use crate::notes::Notes;
 use crate::outcome::Outcome;
-use crate::words::Job;
-use crate::write::write;
-use dv_base::{Conv, Shelf, Tray, Units};
-use dvi_doc::{Doc, DocFault, one_document};
+use crate::output::write;
+use crate::plan::plan;
+use crate::read::{read_document, read_input};
+use crate::scale::{Scale, scale_of};
+use crate::setup::setup;
+use crate::write::Parts;
+use dv_base::{Shelf, Tray};
+use dv_words::PrintJob;
+use dvi_doc::{Doc, one_document};
 use font_set::{Fonts, Want};
+use sections::Usage;
 use std::alloc::Global;
-use vf_expand::expanding;
+use vf_expand::{Walker, expanding};
 
-/// What turns the units of a document into pixels.
+/// What a text has that was written: so many pages, sections and bytes.
 #[derive(Clone, Copy, Drop)]
-struct Scale {
-    units: Units,
-    conv: Conv,
+pub struct Printout {
+    pub pages: u32,
+    pub sections: u32,
+    pub bytes: u64,
 }
 
-/// The document in the bytes.
-fn read_document<'a>(alloc: Global, bytes: &'a [u8]) -> Result<Doc<'a>, Outcome>
-    requires { length bytes.now ≤ 1000000 }
-    ensures found { IfOk result (λ doc. (doc.bytes ≡ bytes.now) × IsRead doc) }
-    ensures cause { IfErr result (NotDocument bytes.now) }
-{
-    match Doc::read(alloc, bytes) {
-        Ok(doc) => Ok(doc),
-        Err(DocFault::OutOfMemory) => Err(Outcome::OutOfMemory),
-        Err(kind) => Err(Outcome::BadDvi { kind }),
-    }
-}
-
-/// What turns the document's units into pixels at a resolution.
-fn scale_of(doc: &Doc<'_>, dpi: u32) -> Result<Scale, Outcome>
-    requires read { IsRead doc.now }
-    requires dpi { dpi ≤ 10000 }
-    ensures units { (d : Document) → IsDoc doc.now.bytes d → IfOk result (λ scale. (scale.units ≡ units_of d dpi) × IsUsable scale.units) }
-    ensures conv { IfOk result (λ scale. scale.conv ≡ pixels_of_one scale.units) }
-    ensures fit { IfOk result (λ scale. AreUnits scale.units) }
-    ensures cause { (d : Document) → IsDoc doc.now.bytes d → IfErr result (NotScaled d dpi) }
-{
-    one_document();
-    let head = doc.head();
-    let units = Units {
-        num: i64::from(head.num),
-        den: i64::from(head.den),
-        mag: i64::from(head.mag),
-        dpi: i64::from(dpi),
-    };
-    match Conv::new(&units) {
-        Some(conv) => Ok(Scale { units, conv }),
-        None => Err(Outcome::BadConv { units }),
-    }
-}
-
-/// The fonts of the document's pages.
+/// The fonts of the pages at these places.
 fn load<S: Shelf>(
     alloc: Global,
     doc: &Doc<'_>,
+    places: &[u32],
     scale: &Scale,
     shelf: &mut S,
 ) -> Result<Fonts, Outcome>
     requires read { IsRead doc.now }
     requires short { length doc.now.bytes < 2 ^ 31 }
+    requires within { Each (λ place. place < length doc.now.pages) places.now }
     requires units { AreUnits scale.now.units }
     requires conv { scale.now.conv ≡ pixels_of_one scale.now.units }
-    ensures covers { (d : Document) → IsDoc doc.now.bytes d → IfOk result (λ fonts. CoversPages fonts doc.now.fonts d.pages) }
-    ensures gains { (d : Document) → IsDoc doc.now.bytes d → IfOk result (GainsPages (S.told shelf.old) doc.now.fonts d.pages (no_fonts scale.now.units)) }
-    ensures numbered { (d : Document) → IsDoc doc.now.bytes d → IfOk result (λ fonts. Each (Expands fonts doc.now.fonts) d.pages → IsNumbered fonts doc.now.fonts d.pages) }
-    ensures reason { (d : Document) → IsDoc doc.now.bytes d → IfErr result (LoadFails (no_fonts scale.now.units) doc.now.fonts d.pages (S.told shelf.old) (S.told shelf.new)) }
+    ensures covers { (pages : List PageOf) → ArePages doc.now places.now pages → IfOk result (λ fonts. CoversPages fonts doc.now.fonts pages) }
+    ensures gains { (pages : List PageOf) → ArePages doc.now places.now pages → IfOk result (GainsPages (S.told shelf.old) doc.now.fonts pages (no_fonts scale.now.units)) }
+    ensures numbered { (pages : List PageOf) → ArePages doc.now places.now pages → IfOk result (λ fonts. Each (Expands fonts doc.now.fonts) pages → IsNumbered fonts doc.now.fonts pages) }
+    ensures reason { (pages : List PageOf) → ArePages doc.now places.now pages → IfErr result (LoadFails (no_fonts scale.now.units) doc.now.fonts pages (S.told shelf.old) (S.told shelf.new)) }
     ensures keeps { Keeps (S.told shelf.old) (S.told shelf.new) }
 {
     let mut fonts = Fonts::new(alloc, scale.units, scale.conv, Want::Rasters);
-    load_pages(doc, shelf, &mut fonts)?;
+    load_pages(doc, places, shelf, &mut fonts)?;
     Ok(fonts)
 }
 
-/// Prints a document: loads its fonts, looks at its pages, and writes its text.
+/// Puts the pages at these places into sections, says the warnings, and writes the text. The pages were looked at before.
+fn print_ready<T: Tray>(
+    alloc: Global,
+    job: &PrintJob,
+    doc: &Doc<'_>,
+    places: &[u32],
+    fonts: &Fonts,
+    walker: &mut Walker,
+    notes: &Notes,
+    headers: Vec<Vec<u8>>,
+    tray: &mut T,
+) -> Result<Printout, Outcome>
+    requires job { IsGoodJob (print_view job.now) }
+    requires walkable { IsWalkable doc.now places.now walker.old.grid fonts.now }
+    requires few { length places.now ≤ 1000000 }
+    requires known { length fonts.now.fonts ≤ 1000 }
+    requires rows { (id code : ℕ) (bitmap : Bitmap) → bitmap_at fonts.now id code ≡ Some bitmap → AreRows bitmap }
+    requires noted { (pages : List (List Mark)) × HasNoted (print_view job.now) notes.now pages }
+    ensures leaves { (told later : Told) (c : Covered (print_view job.now) told) → IsLookedAt c doc.now places.now walker.old fonts.now → HasNoted (print_view job.now) notes.now (chosen_marks c)
+        → IsHeaded c (map (λ h. h.items) headers.items) → LeavesBy (print_view job.now) told later (T.seen tray.old) (T.seen tray.new) result }
+    ensures later { (T.seen tray.old).faults ≤ (T.seen tray.new).faults }
+{
+    one_document();
+    let mut usage = Usage::new(alloc, fonts)?;
+    let limits = (job.memory, job.per_section);
+    let plan = plan(alloc, doc, places, fonts, walker, &mut usage, limits)?;
+    let parts = Parts {
+        setup: setup(job, notes.paper(), places.len() as u32),
+        headers,
+        places,
+        plan,
+    };
+    notes.warn(fonts, tray);
+    write(alloc, job, doc, &parts, fonts, walker, &mut usage, tray)
+}
+
+/// Prints the pages at these places: loads their fonts, looks at them, and writes the text.
 fn print_document<S: Shelf, T: Tray>(
     alloc: Global,
-    job: &Job,
+    job: &PrintJob,
     doc: &Doc<'_>,
+    places: &[u32],
     shelf: &mut S,
     tray: &mut T,
-) -> Result<(), Outcome>
-    requires job { IsGoodJob (job_view job.now) }
+) -> Result<Printout, Outcome>
+    requires job { IsGoodJob (print_view job.now) }
     requires read { IsRead doc.now }
-    requires short { length doc.now.bytes ≤ 1000000 }
-    ensures leaves { (told : Told) (source : Source (job_view job.now) told) → Keeps told (S.told shelf.old) → source.input.bytes ≡ doc.now.bytes → LeavesBy (job_view job.now) told (S.told shelf.new) (T.seen tray.old) (T.seen tray.new) result }
+    requires short { length doc.now.bytes ≤ 67108864 }
+    requires within { Each (λ place. place < length doc.now.pages) places.now }
+    requires few { length places.now ≤ 1000000 }
+    requires chosen { (d : Document) → IsDoc doc.now.bytes d → places.now ≡ places_of d (request_of (print_view job.now)) }
+    ensures leaves { (told : Told) (s : Selected (print_view job.now) told) → Keeps told (S.told shelf.old) → s.source.input.bytes ≡ doc.now.bytes → LeavesBy (print_view job.now) told (S.told shelf.new) (T.seen tray.old) (T.seen tray.new) result }
     ensures keeps { Keeps (S.told shelf.old) (S.told shelf.new) }
     ensures later { (T.seen tray.old).faults ≤ (T.seen tray.new).faults }
 {
     one_document();
     expanding();
-    let scale = scale_of(doc, job.dpi)?;
-    let fonts = load(alloc, doc, &scale, shelf)?;
+    let across = scale_of(doc, job.mag, job.dpi.0)?;
+    let down = scale_of(doc, job.mag, job.dpi.1)?;
+    let once = &places[..places.len() / job.collated as usize];
+    let fonts = load(alloc, doc, once, &across, shelf)?;
     fonts.bitmaps_are_rows();
-    let (walker, usage) = check(alloc, doc, scale.conv, &fonts)?;
-    write(alloc, job, doc, &fonts, walker, &usage, tray)
+    let mut walker = Walker::new(alloc, across.conv, down.conv, i64::from(job.drift))?;
+    let notes = check(alloc, doc, once, &fonts, &mut walker, job)?;
+    let headers = headers_of(alloc, &notes, shelf)?;
+    print_ready(
+        alloc,
+        job,
+        doc,
+        places,
+        &fonts,
+        &mut walker,
+        &notes,
+        headers,
+        tray,
+    )
 }
 
 /// Prints the document in the bytes.
-pub fn print_bytes<S: Shelf, T: Tray>(
+fn print_bytes<S: Shelf, T: Tray>(
     alloc: Global,
-    job: &Job,
+    job: &PrintJob,
     bytes: &[u8],
     shelf: &mut S,
     tray: &mut T,
-) -> Result<(), Outcome>
-    requires job { IsGoodJob (job_view job.now) }
-    requires short { length bytes.now ≤ 1000000 }
-    ensures leaves { (told : Told) (input : Input (job_view job.now) told) → Keeps told (S.told shelf.old) → input.bytes ≡ bytes.now → LeavesBy (job_view job.now) told (S.told shelf.new) (T.seen tray.old) (T.seen tray.new) result }
+) -> Result<Printout, Outcome>
+    requires job { IsGoodJob (print_view job.now) }
+    requires short { length bytes.now ≤ 67108864 }
+    ensures leaves { (told : Told) (input : Input (print_view job.now).input told) → Keeps told (S.told shelf.old) → input.bytes ≡ bytes.now → LeavesBy (print_view job.now) told (S.told shelf.new) (T.seen tray.old) (T.seen tray.new) result }
     ensures keeps { Keeps (S.told shelf.old) (S.told shelf.new) }
     ensures later { (T.seen tray.old).faults ≤ (T.seen tray.new).faults }
 {
+    one_document();
     let doc = read_document(alloc, bytes)?;
-    print_document(alloc, job, &doc, shelf, tray)
+    let places = choose(
+        alloc,
+        &doc,
+        &job.windows,
+        job.parity,
+        job.limit,
+        job.reverse,
+        job.collated,
+    )?;
+    print_document(alloc, job, &doc, &places, shelf, tray)
+}
+
+/// Reads the input of a job and prints it; answers what the text has, or the outcome other than Done.
+pub fn print_job<S: Shelf, T: Tray>(
+    alloc: Global,
+    job: &PrintJob,
+    shelf: &mut S,
+    tray: &mut T,
+) -> Result<Printout, Outcome>
+    requires job { IsGoodJob (print_view job.now) }
+    ensures leaves { LeavesBy (print_view job.now) (S.told shelf.old) (S.told shelf.new) (T.seen tray.old) (T.seen tray.new) result }
+    ensures keeps { Keeps (S.told shelf.old) (S.told shelf.new) }
+    ensures later { (T.seen tray.old).faults ≤ (T.seen tray.new).faults }
+{
+    let bytes = read_input(alloc, &job.input, shelf)?;
+    print_bytes(alloc, job, &bytes, shelf, tray)
 }

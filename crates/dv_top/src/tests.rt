@@ -165,7 +165,7 @@ fn define(bytes: &mut Vec<u8>, number: u8, name: &str) -> Result<(), Fail> {
 }
 
 /// A document with these fonts, numbered from 0, and these pages.
-fn document(alloc: Global, fonts: &[&str], pages: &[(i32, &[u8])]) -> Result<Vec<u8>, Fail> {
+pub fn document(alloc: Global, fonts: &[&str], pages: &[(i32, &[u8])]) -> Result<Vec<u8>, Fail> {
     let mut bytes = Vec::from_slice(alloc, &RULE[..15])?;
     let mut last = -1_i32;
     for (count, commands) in pages {
@@ -467,7 +467,7 @@ fn every_outcome(rt: HostRuntime) -> Result<(), Fail> {
         (File::Pages(&[]), none),
         (File::Long(1_000_000), none),
         (
-            File::Long(1_000_001),
+            File::Long(67_108_865),
             "1 nothing texdvi: FileTooLong a.dvi\n",
         ),
         (File::Absent, "1 nothing texdvi: Missing a.dvi\n"),
@@ -487,7 +487,7 @@ fn every_outcome(rt: HostRuntime) -> Result<(), Fail> {
                     &[239, 1, 120, 160, 0, 72, 69, 31, 137, 0, 0, 0, 1, 0, 0, 0, 1],
                 ),
             ]),
-            "0 a.ps bos\n%%Page: 7 1\nbop\n300 300 a\n2 2 v\n0 0 a\n2 2 v\neop\n%%Page: -3 2\nbop\neop\n%%Page: 2 3\nbop\n300 x\n1 1 v\neop\neos\n%%Trailer\nend\n%%EOF\n",
+            "0 a.ps bos\n%%Page: 7 1\nbop\n300 300 a\n2 2 v\n0 0 a\n2 2 v\neop\n%%Page: -3 2\nbop\neop\n%%Page: 2 3\nbop\n300 x\n1 1 v\neop\neos\n%%Trailer\nend\n%%EOF\ntexdvi: warning: special x\n",
         ),
         (
             File::Pushes(1_000),
@@ -550,13 +550,102 @@ fn every_outcome(rt: HostRuntime) -> Result<(), Fail> {
         ("", "2 nothing texdvi: BadWords 0\n"),
         ("dvips", "2 nothing texdvi: BadWords 1\n"),
         ("dvips -D 9 -o a.ps a", "2 nothing texdvi: BadWords 2\n"),
-        ("dvips -D 300 a", "2 nothing texdvi: BadWords 3\n"),
+        ("dvips -D9 a", "2 nothing texdvi: BadWords 1\n"),
+        ("dvips -X 9 a", "2 nothing texdvi: BadWords 2\n"),
+        ("dvips -p", "2 nothing texdvi: BadWords 2\n"),
+        ("dvips -Z a", "2 nothing texdvi: BadWords 1\n"),
+        ("dvips a b", "2 nothing texdvi: BadWords 2\n"),
+        ("dvips -A -B a", "2 nothing texdvi: BadWords 2\n"),
+        ("dvips -pp 1 -p 2 a", "2 nothing texdvi: BadWords 3\n"),
         ("dvips -D 300 -o a.ps -a", "2 nothing texdvi: BadWords 5\n"),
         ("dvips -D 300 -o a.ps a b", "2 nothing texdvi: BadWords 6\n"),
     ];
     for (line, want) in &words {
         let end = end_of(rt.alloc(), line, &File::Pages(&[]), &Outside::Nothing)?;
         assert_eq!(rt; end.as_str(), *want);
+    }
+    Ok(())
+}
+
+/// The labels and numbers of the pages of a text.
+fn page_lines(alloc: Global, text: &str) -> Result<String, Fail> {
+    let mut lines = String::new(alloc);
+    for line in text.split('\n') {
+        if let Some(page) = line.strip_prefix("%%Page: ") {
+            lines.push_str(page)?;
+            lines.push_str(",")?;
+        }
+    }
+    Ok(lines)
+}
+
+/// In each line the options, and the pages, each by its label and its number, or the message.
+const CHOICES: &str = "-q/1 1,2 2,2 3,-1 4,
+-p 2/2 1,2 2,-1 3,
+-l 2/1 1,2 2,
+-p =3/2 1,-1 2,
+-A/1 1,-1 2,
+-r/-1 1,2 2,2 3,1 4,
+-pp 1,2/1 1,2 2,
+-pp -1,1:2/1 1,2 2,-1 3,
+-C 2/1 1,2 2,2 3,-1 4,1 5,2 6,2 7,-1 8,
+-n 1 -r/1 1,
+-p =2 -l =2/2 1,
+-p 9/texdvi: NoSuchPage 9
+-p 2 -l 1/texdvi: NoSuchPage 1";
+
+#[test]
+fn chosen_pages(rt: HostRuntime) -> Result<(), Fail> {
+    let alloc = rt.alloc();
+    let pages = File::Pages(&[(1, &[]), (2, &[]), (2, &[]), (-1, &[])]);
+    for line in CHOICES.split('\n') {
+        let options = line.split('/').nth(0).ok_or("options")?;
+        let want = line.split('/').nth(1).ok_or("pages")?;
+        let words = format!(in alloc; "dvips {options} a")?;
+        let end = end_of(alloc, words.as_str(), &pages, &Outside::Nothing)?;
+        let lines = page_lines(alloc, end.as_str())?;
+        assert!(rt;
+            lines.as_str() == want || end.as_str().contains(want),
+            "{options}: {end}"
+        );
+    }
+    Ok(())
+}
+
+/// In each line the options, and a part of the text of a page of rules.
+const SETUPS: &str = "-D 300/%%BoundingBox: 0 0 612 792
+-D 300/52099153 300 300 300 300 TS
+-t a4 -D 600/%%BoundingBox: 0 0 596 842
+-t a4 -D 600/55380990 600 600 600 600 TS
+-D 300 -O 1in,0in/52099153 300 300 600 300 TS
+-X 300 -Y 600/52099153 300 600 300 600 TS
+-D 600 -X 300/52099153 300 600 300 600 TS
+-X 300 -D 600/52099153 600 600 600 600 TS
+-D 300 -c 3/#copies 3 def
+-D 300 -x 2000/2 w
+-D 300 -N/%!PS
+";
+
+#[test]
+fn setups_of_jobs(rt: HostRuntime) -> Result<(), Fail> {
+    let alloc = rt.alloc();
+    for line in SETUPS.split('\n') {
+        let Some(want) = line.split('/').nth(1) else {
+            continue;
+        };
+        let options = line.split('/').nth(0).ok_or("options")?;
+        let words = format!(in alloc; "dvips {options} a")?;
+        let mut list = Vec::new(alloc);
+        for word in words.as_str().split(' ') {
+            list.push(String::from_str(alloc, word)?)?;
+        }
+        let mut shelf = MemShelf::new(alloc);
+        shelf.add("a.dvi", &RULE)?;
+        let mut tray = tray(alloc, ROOM, 0)?;
+        let outcome = run_tool(alloc, &list, &mut shelf, &mut tray);
+        assert_eq!(rt; outcome.status(), 0, "{options}");
+        let written = str::from_utf8(tray.written())?;
+        assert!(rt; written.contains(want), "{options}");
     }
     Ok(())
 }

@@ -1,38 +1,28 @@
 //! The text of a document whose pages can all be printed.
-ghost use Rattle.std.specs.Prelude.{◌≡◌, ◌<◌, ◌≤◌, ◌+◌, ◌^◌, ◌++◌, [], List, OnOk, Some, length, true};
-ghost use Rattle.dv_base.specs.Shelf.{Told};
+ghost use Rattle.std.specs.Prelude.{◌≡◌, ◌<◌, ◌≤◌, ◌+◌, ◌^◌, ◌-◌, ◌++◌, IfOk, List, OnOk, Some, length, map};
+ghost use Rattle.std.specs.List.{sum};
 ghost use Rattle.positions.specs.Mark.{Mark};
-ghost use Rattle.dvi_doc.specs.Document.{Document, PageOf};
-ghost use Rattle.dvi_doc.specs.Grammar.{IsDoc};
+ghost use Rattle.dvi_doc.specs.Document.{PageOf};
 ghost use Rattle.dvi_doc.specs.View.{IsRead};
 ghost use Rattle.vf_expand.specs.Grid.{State};
 ghost use Rattle.vf_expand.specs.Page.{IsPage, page_count, page_marks};
-ghost use Rattle.ps_emit.specs.Pages.{PrintedPage, bytes_of_job, page_calls, pages_calls, sections_calls};
+ghost use Rattle.ps_emit.specs.Pages.{PrintedPage, page_calls, pages_calls, section_calls, sections_calls};
 ghost use Rattle.ps_emit.specs.Setup.{prologue_of, trailer_of};
 ghost use Rattle.ps_emit.specs.Shown.{Holds, comments_of, fonts_of, out_of, pass_of};
 ghost use Rattle.ps_emit.specs.Written.{Writes};
-ghost use Rattle.dv_top.specs.Covered.{Covered};
-ghost use Rattle.dv_top.specs.Job.{IsGoodJob};
-ghost use Rattle.dv_top.specs.JobView.{job_view};
-ghost use Rattle.dv_top.specs.Printing.{IsSetupOf, in_sections, most_steps, printed_from, with_marks, work_of};
-ghost use Rattle.dv_top.specs.Walkable.{IsUsedBy, IsWalkable, WritesSeen};
-ghost use Rattle.dv_top.specs.WholeRun.{LeavesBy};
-ghost use Rattle.dv_top.specs.Writing.{IsCoveredBy, IsReady, IsWritable};
+ghost use Rattle.dv_top.specs.Printing.{in_sections, most_steps, printed_from, with_marks};
+ghost use Rattle.dv_top.specs.Selecting.{ArePages};
+ghost use Rattle.dv_top.specs.Writing.{IsReady, IsWalkable};
 
 use crate::label::label;
-use crate::outcome::Outcome;
-use crate::words::Job;
-use dv_base::{Begun, Tray, WriteFault};
+use crate::plan::use_pages;
+use dv_base::{Tray, WriteFault};
 use dvi_doc::{Doc, one_document};
 use font_set::Fonts;
-use ps_emit::laws::{calls_make_text, cut_text_shows, text_shows, usage_gives_fonts};
+use ps_emit::laws::usage_gives_fonts;
 use ps_emit::{Emitter, Setup};
-use sections::Usage;
-use std::alloc::Global;
+use sections::{Plan, Usage};
 use vf_expand::{WalkFault, Walker, pages_by_place};
-
-/// The width and height of letter paper, 8.5 by 11 inches, in scaled points.
-const LETTER: (i64, i64) = (40_258_437, 52_099_153);
 
 /// The fault of the canvas, which alone can stop a walk over a page that was looked at before.
 fn canvas_fault(fault: WalkFault<WriteFault>) -> WriteFault
@@ -44,171 +34,196 @@ fn canvas_fault(fault: WalkFault<WriteFault>) -> WriteFault
     }
 }
 
-/// Writes one page.
+/// Writes the page at a place, which has this number in the text.
 fn write_page<T: Tray>(
     doc: &Doc<'_>,
     page: usize,
+    number: u32,
     fonts: &Fonts,
     walker: &mut Walker,
     emitter: &mut Emitter<'_, T>,
 ) -> Result<(), WriteFault>
     requires read { IsRead doc.now }
     requires short { length doc.now.bytes < 2 ^ 31 }
-    requires many { length doc.now.pages < 2 ^ 31 }
     requires page { page < length doc.now.pages }
     requires begun { 0 < (out_of emitter.old).seen.begun }
     requires fonts { fonts_of emitter.old ≡ fonts.now }
     requires ready { (p : PageOf) → IsPage doc.now page p → IsReady walker.old.grid fonts.now doc.now.fonts p }
     requires few { (p : PageOf) → IsPage doc.now page p → walker.old.steps + page_count fonts.now doc.now.fonts p.commands ≤ most_steps }
     ensures writes { (p : PageOf) → IsPage doc.now page p → (marks : List Mark) (state : State) → page_marks walker.old.grid fonts.now doc.now.fonts p.commands ≡ Some (marks, state)
-        → Writes (page_calls (comments_of emitter.old) (pass_of emitter.old) (with_marks p (page + 1) marks)) (out_of emitter.old) (out_of emitter.new) result }
+        → Writes (page_calls (comments_of emitter.old) (pass_of emitter.old) (with_marks p number marks)) (out_of emitter.old) (out_of emitter.new) result }
     ensures holds { Holds emitter.old emitter.new }
     ensures kept { walker.new.grid ≡ walker.old.grid }
-    ensures steps { (p : PageOf) → IsPage doc.now page p → OnOk result (walker.new.steps ≡ walker.old.steps + page_count fonts.now doc.now.fonts p.commands) }
 {
     one_document();
     pages_by_place();
     let label = label(&doc.pages()[page]);
-    emitter.begin_page(label, page as u32 + 1)?;
+    emitter.begin_page(label, number)?;
     match walker.page(doc, page, fonts, emitter) {
         Ok(()) => emitter.end_page(),
         Err(fault) => Err(canvas_fault(fault)),
     }
 }
 
-/// Writes all pages, one after another.
+/// Writes the pages at these places, one after another, of which the first has this number in the text.
 fn write_pages<T: Tray>(
     doc: &Doc<'_>,
+    places: &[u32],
+    first: u32,
     fonts: &Fonts,
     walker: &mut Walker,
     emitter: &mut Emitter<'_, T>,
 ) -> Result<(), WriteFault>
-    requires walkable { IsWalkable doc.now walker.old fonts.now }
+    requires walkable { IsWalkable doc.now places.now walker.old.grid fonts.now }
+    requires few { first + length places.now < 2 ^ 32 }
     requires begun { 0 < (out_of emitter.old).seen.begun }
     requires fonts { fonts_of emitter.old ≡ fonts.now }
-    ensures writes { (d : Document) → IsDoc doc.now.bytes d → (pages : List PrintedPage) → printed_from walker.old.grid fonts.now doc.now.fonts 1 d.pages ≡ Some pages
-        → Writes (pages_calls (comments_of emitter.old) (pass_of emitter.old) pages) (out_of emitter.old) (out_of emitter.new) result }
+    ensures writes { (pages : List PageOf) → ArePages doc.now places.now pages → (printed : List PrintedPage) → printed_from walker.old.grid fonts.now doc.now.fonts first pages ≡ Some printed
+        → Writes (pages_calls (comments_of emitter.old) (pass_of emitter.old) printed) (out_of emitter.old) (out_of emitter.new) result }
     ensures holds { Holds emitter.old emitter.new }
+    ensures kept { walker.new.grid ≡ walker.old.grid }
 {
     one_document();
-    for page in 0..doc.pages().len() {
-        write_page(doc, page, fonts, walker, emitter)?;
+    for index in 0..places.len() {
+        let page = places[index] as usize;
+        walker.reset();
+        write_page(doc, page, first + index as u32, fonts, walker, emitter)?;
     }
     Ok(())
 }
 
-/// Writes the section with all pages; where there are none, there is none.
+/// Writes the section with the pages at these places, of which the first has this number in the text.
 fn write_section<T: Tray>(
     doc: &Doc<'_>,
+    places: &[u32],
+    first: u32,
     fonts: &Fonts,
     walker: &mut Walker,
-    usage: &Usage,
+    usage: &mut Usage,
     emitter: &mut Emitter<'_, T>,
 ) -> Result<(), WriteFault>
-    requires walkable { IsWalkable doc.now walker.old fonts.now }
+    requires walkable { IsWalkable doc.now places.now walker.old.grid fonts.now }
+    requires few { first + length places.now < 2 ^ 32 }
     requires begun { 0 < (out_of emitter.old).seen.begun }
     requires fonts { fonts_of emitter.old ≡ fonts.now }
-    requires uses { IsUsedBy doc.now walker.old.grid fonts.now usage.now }
-    ensures writes { (d : Document) → IsDoc doc.now.bytes d → (pages : List PrintedPage) → printed_from walker.old.grid fonts.now doc.now.fonts 1 d.pages ≡ Some pages
-        → Writes (sections_calls (comments_of emitter.old) fonts.now (pass_of emitter.old) (in_sections pages)) (out_of emitter.old) (out_of emitter.new) result }
+    requires given { usage.old.fonts ≡ length fonts.now.fonts }
+    ensures writes { (pages : List PageOf) → ArePages doc.now places.now pages → (printed : List PrintedPage) → printed_from walker.old.grid fonts.now doc.now.fonts first pages ≡ Some printed
+        → Writes (section_calls (comments_of emitter.old) fonts.now (pass_of emitter.old) printed) (out_of emitter.old) (out_of emitter.new) result }
     ensures holds { Holds emitter.old emitter.new }
+    ensures given { usage.new.fonts ≡ length fonts.now.fonts }
+    ensures kept { walker.new.grid ≡ walker.old.grid }
 {
     one_document();
     usage_gives_fonts();
-    if doc.pages().is_empty() {
-        return Ok(());
-    }
+    use_pages(doc, places, fonts, walker, usage);
     emitter.begin_section()?;
     emitter.fonts(usage)?;
-    write_pages(doc, fonts, walker, emitter)?;
+    write_pages(doc, places, first, fonts, walker, emitter)?;
     emitter.end_section()
+}
+
+/// Writes the pages at these places in sections, of which each has so many of them.
+fn write_sections<T: Tray>(
+    doc: &Doc<'_>,
+    places: &[u32],
+    plan: &[u32],
+    fonts: &Fonts,
+    walker: &mut Walker,
+    usage: &mut Usage,
+    emitter: &mut Emitter<'_, T>,
+) -> Result<(), WriteFault>
+    requires walkable { IsWalkable doc.now places.now walker.old.grid fonts.now }
+    requires few { length places.now < 2 ^ 32 - 1 }
+    requires planned { sum plan.now ≡ length places.now }
+    requires begun { 0 < (out_of emitter.old).seen.begun }
+    requires fonts { fonts_of emitter.old ≡ fonts.now }
+    requires given { usage.old.fonts ≡ length fonts.now.fonts }
+    ensures writes { (pages : List PageOf) → ArePages doc.now places.now pages → (printed : List PrintedPage) → printed_from walker.old.grid fonts.now doc.now.fonts 1 pages ≡ Some printed
+        → Writes (sections_calls (comments_of emitter.old) fonts.now (pass_of emitter.old) (in_sections plan.now printed)) (out_of emitter.old) (out_of emitter.new) result }
+    ensures holds { Holds emitter.old emitter.new }
+{
+    one_document();
+    let mut done = 0;
+    for count in plan {
+        let next = done + *count as usize;
+        write_section(
+            doc,
+            &places[done..next],
+            done as u32 + 1,
+            fonts,
+            walker,
+            usage,
+            emitter,
+        )?;
+        done = next;
+    }
+    Ok(())
+}
+
+/// What a text is made of: the setup, the bytes of its headers, the places of its pages, and how many of them each section has.
+#[derive(Drop)]
+pub struct Parts<'a> {
+    pub setup: Setup,
+    pub headers: Vec<Vec<u8>>,
+    pub places: &'a [u32],
+    pub plan: Plan,
 }
 
 /// Writes the whole text.
 fn write_text<T: Tray>(
     doc: &Doc<'_>,
-    setup: &Setup,
+    parts: &Parts<'_>,
     fonts: &Fonts,
     walker: &mut Walker,
-    usage: &Usage,
+    usage: &mut Usage,
     emitter: &mut Emitter<'_, T>,
 ) -> Result<(), WriteFault>
-    requires walkable { IsWalkable doc.now walker.old fonts.now }
+    requires walkable { IsWalkable doc.now parts.now.places.now walker.old.grid fonts.now }
+    requires few { length parts.now.places.now < 2 ^ 32 - 1 }
+    requires planned { sum parts.now.plan ≡ length parts.now.places.now }
     requires begun { 0 < (out_of emitter.old).seen.begun }
     requires fonts { fonts_of emitter.old ≡ fonts.now }
-    requires uses { IsUsedBy doc.now walker.old.grid fonts.now usage.now }
-    ensures writes { (d : Document) → IsDoc doc.now.bytes d → (pages : List PrintedPage) → printed_from walker.old.grid fonts.now doc.now.fonts 1 d.pages ≡ Some pages
-        → Writes (prologue_of (comments_of emitter.old) setup.now [] ++ (sections_calls (comments_of emitter.old) fonts.now (pass_of emitter.old) (in_sections pages) ++ trailer_of (comments_of emitter.old)))
+    requires given { usage.old.fonts ≡ length fonts.now.fonts }
+    ensures writes { (pages : List PageOf) → ArePages doc.now parts.now.places.now pages → (printed : List PrintedPage) → printed_from walker.old.grid fonts.now doc.now.fonts 1 pages ≡ Some printed
+        → Writes (prologue_of (comments_of emitter.old) parts.now.setup (map (λ h. h.items) parts.now.headers.items) ++ (sections_calls (comments_of emitter.old) fonts.now (pass_of emitter.old) (in_sections parts.now.plan printed) ++ trailer_of (comments_of emitter.old)))
         (out_of emitter.old) (out_of emitter.new) result }
     ensures holds { Holds emitter.old emitter.new }
 {
     one_document();
-    emitter.prologue(setup, &[])?;
-    write_section(doc, fonts, walker, usage, emitter)?;
+    emitter.prologue(&parts.setup, &parts.headers)?;
+    write_sections(
+        doc,
+        parts.places,
+        parts.plan.as_slice(),
+        fonts,
+        walker,
+        usage,
+        emitter,
+    )?;
     emitter.trailer()
 }
 
-/// Writes the text to the output that was begun.
-fn write_output<T: Tray>(
-    tray: &mut T,
+/// Writes the whole text, and answers how many bytes the tray has taken.
+pub fn write_counted<T: Tray>(
     doc: &Doc<'_>,
-    setup: &Setup,
+    parts: &Parts<'_>,
     fonts: &Fonts,
     walker: &mut Walker,
-    usage: &Usage,
-) -> Result<(), WriteFault>
-    requires walkable { IsWalkable doc.now walker.old fonts.now }
-    requires begun { 0 < (T.seen tray.old).begun }
-    requires uses { IsUsedBy doc.now walker.old.grid fonts.now usage.now }
-    ensures writes { (d : Document) → IsDoc doc.now.bytes d → (pages : List PrintedPage) → printed_from walker.old.grid fonts.now doc.now.fonts 1 d.pages ≡ Some pages
-        → WritesSeen (bytes_of_job true setup.now (work_of fonts.now pages)) (T.seen tray.old) (T.seen tray.new) result }
+    usage: &mut Usage,
+    emitter: &mut Emitter<'_, T>,
+) -> Result<u64, WriteFault>
+    requires walkable { IsWalkable doc.now parts.now.places.now walker.old.grid fonts.now }
+    requires few { length parts.now.places.now < 2 ^ 32 - 1 }
+    requires planned { sum parts.now.plan ≡ length parts.now.places.now }
+    requires begun { 0 < (out_of emitter.old).seen.begun }
+    requires fonts { fonts_of emitter.old ≡ fonts.now }
+    requires given { usage.old.fonts ≡ length fonts.now.fonts }
+    ensures writes { (pages : List PageOf) → ArePages doc.now parts.now.places.now pages → (printed : List PrintedPage) → printed_from walker.old.grid fonts.now doc.now.fonts 1 pages ≡ Some printed
+        → Writes (prologue_of (comments_of emitter.old) parts.now.setup (map (λ h. h.items) parts.now.headers.items) ++ (sections_calls (comments_of emitter.old) fonts.now (pass_of emitter.old) (in_sections parts.now.plan printed) ++ trailer_of (comments_of emitter.old)))
+        (out_of emitter.old) (out_of emitter.new) result }
+    ensures bytes { IfOk result (λ n. n ≡ (out_of emitter.new).count) }
+    ensures holds { Holds emitter.old emitter.new }
 {
-    one_document();
-    calls_make_text();
-    let mut emitter = Emitter::new(tray, fonts, true, false);
-    write_text(doc, setup, fonts, walker, usage, &mut emitter)
-}
-
-/// The setup of a job whose document has so many pages.
-fn setup(job: &Job, pages: u32) -> Setup
-    ensures { IsSetupOf (job_view job.now) pages result }
-{
-    let dpi = i64::from(job.dpi);
-    Setup {
-        title: job.input,
-        pages,
-        paper: LETTER,
-        dpi: (job.dpi, job.dpi),
-        origin: (dpi, dpi),
-        copies: 1,
-    }
-}
-
-/// Begins the output and writes the text of a document whose pages were all looked at. Only a fault of the tray can stop it once the
-/// output is begun.
-pub fn write<T: Tray>(
-    alloc: Global,
-    job: &Job,
-    doc: &Doc<'_>,
-    fonts: &Fonts,
-    walker: Walker,
-    usage: &Usage,
-    tray: &mut T,
-) -> Result<(), Outcome>
-    requires job { IsGoodJob (job_view job.now) }
-    requires short { length doc.now.bytes ≤ 1000000 }
-    requires writable { IsWritable doc.now walker fonts.now usage.now }
-    ensures leaves { (told later : Told) (covered : Covered (job_view job.now) told) → IsCoveredBy (job_view job.now) told covered doc.now walker fonts.now → LeavesBy (job_view job.now) told later (T.seen tray.old) (T.seen tray.new) result }
-    ensures later { (T.seen tray.old).faults ≤ (T.seen tray.new).faults }
-{
-    one_document();
-    text_shows();
-    cut_text_shows();
-    let mut walker = walker;
-    let setup = setup(job, doc.pages().len() as u32);
-    match tray.begin(alloc, job.output.as_str()) {
-        Begun::Ready => Ok(write_output(tray, doc, &setup, fonts, &mut walker, usage)?),
-        Begun::Failed => Err(Outcome::WriteFault),
-        Begun::OutOfMemory => Err(Outcome::OutOfMemory),
-    }
+    write_text(doc, parts, fonts, walker, usage, emitter)?;
+    Ok(emitter.bytes())
 }

@@ -9,6 +9,9 @@ ghost use Rattle.dv_base.specs.FileShelf.{told_of};
 ghost use Rattle.dv_base.specs.FileTray.{seen_of};
 ghost use Rattle.texdvi.specs.Ends.{Ends};
 
+mod about;
+
+use about::about_text;
 use dv_base::{FileShelf, FileTray};
 use dv_top::{Outcome, run_tool};
 use std::alloc::Global;
@@ -47,10 +50,21 @@ fn run<R: Files + Input + Print + Eprint>(
     }
 }
 
+/// Prints what was asked of the program itself.
+fn print(rt: &HostRuntime, text: &str) -> ExitCode {
+    match rt.print(text) {
+        Ok(()) => ExitCode::from(Outcome::Done.status()),
+        Err(_) => ExitCode::from(Outcome::WriteFault.status()),
+    }
+}
+
 fn main(rt: HostRuntime) -> ExitCode {
     let Ok(words) = words(&rt) else {
         return ExitCode::from(NO_WORDS);
     };
+    if let Some(text) = about_text(&words) {
+        return print(&rt, text);
+    }
     let mut shelf = FileShelf::new(&rt);
     let mut tray = FileTray::new(&rt);
     run(rt.alloc(), &words, &mut shelf, &mut tray)

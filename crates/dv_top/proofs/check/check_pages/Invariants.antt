@@ -1,17 +1,20 @@
-use Rattle.std.proofs.Common.{◌≡◌, take}
-use Rattle.dvi_doc.specs.Document.{Document}
-use Rattle.dvi_doc.specs.Grammar.{IsDoc}
+use Rattle.std.proofs.Common.{◌≡◌, List, [], take, length}
+use Rattle.dvi_doc.specs.Document.{PageOf}
 use Rattle.vf_expand.specs.Page.{pages_count}
-use Rattle.sections.specs.Used.{Takes}
 use Rattle.dv_top.specs.Each.{Each}
-use Rattle.dv_top.specs.Writing.{IsReady, marks_in}
+use Rattle.dv_words.specs.Jobs.{PrintJob}
+use Rattle.dv_top.specs.Noted.{HasNoted}
+use Rattle.dv_top.specs.Printing.{marks_of_each}
+use Rattle.dv_top.specs.Selecting.{ArePages}
+use Rattle.dv_top.specs.Writing.{IsReady}
 use Rattle.dv_top.proofs.check.check_pages.Given as goal
 
-abbrev pub invariant-loop-page : goal.invariant-loop-page
-invariant-loop-page l =
+abbrev pub invariant-loop-place : goal.invariant-loop-place
+invariant-loop-place l =
     record {
-      ready : (d : Document) → IsDoc l.doc.bytes d → Each (IsReady l.fn.walker.grid l.fonts l.doc.fonts) (take l.page d.pages);
-      takes : (d : Document) → IsDoc l.doc.bytes d → Takes l.fn.usage l.usage (marks_in l.fn.walker.grid l.fonts l.doc.fonts (take l.page d.pages));
-      steps : (d : Document) → IsDoc l.doc.bytes d → l.walker.steps ≡ pages_count l.fonts l.doc.fonts (take l.page d.pages);
+      ready : (pages : List PageOf) → ArePages l.doc l.places pages → Each (IsReady l.fn.walker.grid l.fonts l.doc.fonts) (take l.place-index pages);
+      steps : (pages : List PageOf) → ArePages l.doc l.places pages → l.walker.steps ≡ pages_count l.fonts l.doc.fonts (take l.place-index pages);
+      noted : (pages : List PageOf) → ArePages l.doc l.places pages → (job : PrintJob) → HasNoted job l.fn.notes [] → HasNoted job l.notes (marks_of_each l.fn.walker.grid l.fonts l.doc.fonts (take l.place-index pages));
+      given : l.notes.used.fonts ≡ length l.fonts.fonts;
       kept : l.walker.grid ≡ l.fn.walker.grid;
     }

@@ -1,17 +1,17 @@
-use Rattle.std.proofs.Common.{take}
+use Rattle.std.proofs.Common.{List, take}
 use Rattle.dv_base.specs.Shelf.{Keeps}
-use Rattle.dvi_doc.specs.Document.{Document}
-use Rattle.dvi_doc.specs.Grammar.{IsDoc}
+use Rattle.dvi_doc.specs.Document.{PageOf}
 use Rattle.dv_top.specs.Covered.{CoversPages}
 use Rattle.dv_top.specs.Loading.{GainsPages, Orders}
+use Rattle.dv_top.specs.Selecting.{ArePages}
 use Rattle.dv_top.proofs.load.load_pages.Given as goal
 
-abbrev pub invariant-loop-page : goal.invariant-loop-page
-invariant-loop-page g l =
+abbrev pub invariant-loop-place : goal.invariant-loop-place
+invariant-loop-place g l =
     let told = g.S.Shelf.told in
     record {
-      covers : (d : Document) → IsDoc l.doc.bytes d → CoversPages l.fonts l.doc.fonts (take l.page d.pages);
-      gains : (d : Document) → IsDoc l.doc.bytes d → GainsPages (told l.fn.shelf) l.doc.fonts (take l.page d.pages) l.fn.fonts l.fonts;
-      orders : (d : Document) → IsDoc l.doc.bytes d → Orders l.doc.fonts (take l.page d.pages) l.fn.fonts l.fonts;
+      covers : (pages : List PageOf) → ArePages l.doc l.places pages → CoversPages l.fonts l.doc.fonts (take l.place-index pages);
+      gains : (pages : List PageOf) → ArePages l.doc l.places pages → GainsPages (told l.fn.shelf) l.doc.fonts (take l.place-index pages) l.fn.fonts l.fonts;
+      orders : (pages : List PageOf) → ArePages l.doc l.places pages → Orders l.doc.fonts (take l.place-index pages) l.fn.fonts l.fonts;
       keeps : Keeps (told l.fn.shelf) (told l.shelf);
     }

@@ -1,88 +1,204 @@
-use Rattle.std.proofs.Common.{◌≡◌, arith, refl, sym, ap, subst, ◌∙◌}
+use Rattle.std.proofs.Common.{rules, ◌≡◌, ◌<◌, ◌≤◌, ◌^◌, ◌/◌, ℤ, pos, w64, arith, length, refl, sym, ap, subst, ◌∙◌, inl, inr}
+use Rattle.std.specs.Prelude.{FitsSigned}
+use Rattle.std.proofs.lemmas.Int.{to_z-of_z}
 use Rattle.std.proofs.lemmas.Result.{err_from_is_err_and}
 use Rattle.dv_base.specs.UnitPixels.{pixels_of_one}
+use Rattle.dvi_doc.specs.Document.{Document}
+use Rattle.dvi_doc.specs.Grammar.{IsDoc}
 use Rattle.vf_expand.specs.Grid.{Grid}
 use Rattle.vf_expand.specs.Page.{Walk}
-use Rattle.sections.specs.Used.{HasTaken}
+use Rattle.dv_words.specs.JobView.{print_view}
+use Rattle.font_set.proofs.Steps.{keeps_on}
+use Rattle.dv_top.specs.Covered.{chosen_marks}
 use Rattle.dv_top.specs.Each.{Each}
-use Rattle.dv_top.specs.JobView.{job_view}
-use Rattle.dv_top.specs.Printing.{grid_with}
-use Rattle.dv_top.specs.Writing.{IsReady, marks_in}
-use Rattle.dv_top.proofs.Ended.{covered_of, few_pages, grid_here, is_here, no_fonts_for, no_marks, no_pixels, rasters_of, ready_expands, refused_leaves}
+use Rattle.dv_top.specs.Printing.{chosen, grid_of, grid_with, request_of}
+use Rattle.dv_top.specs.Writing.{IsReady, IsWalkable}
+use Rattle.dv_top.proofs.Ended.{covered_of, fonts_here, grid_here, is_here, no_fonts_for, no_marks, no_pixels, no_pixels_down, rasters_of, ready_expands, refused_undone, walker_grid}
+use Rattle.dv_top.proofs.Headed.{no_headers}
+use Rattle.dv_top.proofs.HeldFiles.{each_before}
+use Rattle.dv_top.proofs.MadeJob.{marked}
+use Rattle.dv_top.proofs.NotedPages.{noted_here}
+use Rattle.dv_top.proofs.Once.{once_pages, once_within, walkable}
 use Rattle.dv_top.proofs.print.print_document.Goals as goal
 
-pub returns-in_err-scale-clause-leaves : goal.returns-in_err-scale-clause-leaves
-returns-in_err-scale-clause-leaves g c = λ told source kept same.
+pub returns-in_err-across-clause-leaves : goal.returns-in_err-across-clause-leaves
+returns-in_err-across-clause-leaves g c = λ told s kept same.
     let shelf = g.S.Shelf.told in
     let seen = g.T.Tray.seen in
-    let p = err_from_is_err_and c.from_residual.result c.from_residual.ensures.1 in
+    let job = print_view c.args.job.now in
+    let r = c.args.doc.now in
+    let places = c.args.places.now in
     let one = c.one_document.ensures in
-    let is = is_here (job_view c.args.job.now) told source c.args.doc.now one c.requires.read same in
+    let is = is_here job told s r one c.requires.read same in
+    let d = s.source.doc in
+    let p = err_from_is_err_and c.from_residual.result c.from_residual.ensures.1 in
     rw (p.1, p.2)
-    (refused_leaves (job_view c.args.job.now) told (shelf c.args.shelf.now) (seen c.args.tray.now) c.in_err-scale.field-0.0
-    (no_pixels (job_view c.args.job.now) told source c.args.doc.now one c.requires.read same (shelf c.args.shelf.now) c.in_err-scale.field-0.0 (c.in_err-scale.ensures.cause source.doc is)))
+    (refused_undone job told (shelf c.args.shelf.now) (seen c.args.tray.now) c.in_err-across.field-0.0 (no_pixels job told s r one c.requires.read same (shelf c.args.shelf.now) c.in_err-across.field-0.0 (c.in_err-across.ensures.cause d is)))
+
+pub returns-in_err-down-clause-leaves : goal.returns-in_err-down-clause-leaves
+returns-in_err-down-clause-leaves g c = λ told s kept same.
+    let shelf = g.S.Shelf.told in
+    let seen = g.T.Tray.seen in
+    let job = print_view c.args.job.now in
+    let r = c.args.doc.now in
+    let places = c.args.places.now in
+    let one = c.one_document.ensures in
+    let is = is_here job told s r one c.requires.read same in
+    let d = s.source.doc in
+    let p = err_from_is_err_and c.from_residual-in_err-down.result c.from_residual-in_err-down.ensures.1 in
+    let scale = c.in_ok-across.ensures.units d is in
+    rw (p.1, p.2)
+    (refused_undone job told (shelf c.args.shelf.now) (seen c.args.tray.now) c.in_err-down.field-0.0
+    (no_pixels_down job told s r one c.requires.read same (shelf c.args.shelf.now) c.in_err-down.field-0.0 c.in_ok-across.across.units scale (c.in_err-down.ensures.cause d is)))
+
+pub load-requires-clause-within : goal.load-requires-clause-within
+load-requires-clause-within g c =
+    let shelf = g.S.Shelf.told in
+    let seen = g.T.Tray.seen in
+    let job = print_view c.args.job.now in
+    let r = c.args.doc.now in
+    let places = c.args.places.now in
+    let one = c.one_document.ensures in
+    once_within one r c.requires.read.0 places (request_of job) c.requires.read c.requires.read.1 c.requires.within (c.requires.chosen c.requires.read.0 c.requires.read.1)
 
 pub returns-in_err-fonts-clause-leaves : goal.returns-in_err-fonts-clause-leaves
-returns-in_err-fonts-clause-leaves g c = λ told source kept same.
+returns-in_err-fonts-clause-leaves g c = λ told s kept same.
     let shelf = g.S.Shelf.told in
     let seen = g.T.Tray.seen in
-    let p = err_from_is_err_and c.from_residual-in_err-fonts.result c.from_residual-in_err-fonts.ensures.1 in
+    let job = print_view c.args.job.now in
+    let r = c.args.doc.now in
+    let places = c.args.places.now in
     let one = c.one_document.ensures in
-    let is = is_here (job_view c.args.job.now) told source c.args.doc.now one c.requires.read same in
+    let is = is_here job told s r one c.requires.read same in
+    let d = s.source.doc in
+    let p = err_from_is_err_and c.from_residual-in_err-fonts.result c.from_residual-in_err-fonts.ensures.1 in
+    let are = once_pages one r d places (request_of job) c.requires.read is c.requires.within (c.requires.chosen d is) c.requires.job.collated in
+    let scale = c.in_ok-across.ensures.units d is in
+    let scale_down = c.in_ok-down.ensures.units d is in
+    let fails = c.in_err-fonts.ensures.reason _ are in
     rw (p.1, p.2)
-    (refused_leaves (job_view c.args.job.now) told (shelf c.load.new.shelf) (seen c.args.tray.now) c.in_err-fonts.field-0.0
-    (no_fonts_for (job_view c.args.job.now) told source c.args.doc.now one c.requires.read same (shelf c.load.new.shelf) c.in_ok-scale.scale.units (shelf c.args.shelf.now) c.in_err-fonts.field-0.0
-    (c.in_ok-scale.ensures.units source.doc is) kept (c.in_err-fonts.ensures.reason source.doc is)))
+    (refused_undone job told (shelf c.load.new.shelf) (seen c.args.tray.now) c.in_err-fonts.field-0.0
+    (no_fonts_for job told s r one c.requires.read same c.in_ok-across.across.units c.in_ok-down.down.units scale scale_down (shelf c.args.shelf.now) kept fails.0 fails.1 (shelf c.load.new.shelf) c.in_err-fonts.field-0.0 fails.2))
+
+pub returns-in_err-walker-clause-leaves : goal.returns-in_err-walker-clause-leaves
+returns-in_err-walker-clause-leaves g c = λ told s kept same.
+    let shelf = g.S.Shelf.told in
+    let seen = g.T.Tray.seen in
+    let job = print_view c.args.job.now in
+    let r = c.args.doc.now in
+    let places = c.args.places.now in
+    let one = c.one_document.ensures in
+    let p = err_from_is_err_and c.from_residual-in_err-walker.result c.from_residual-in_err-walker.ensures.1 in
+    rw (p.1, p.2) (refused_undone job told (shelf c.load.new.shelf) (seen c.args.tray.now) _ (inl refl))
+
+pub check-requires-clause-within : goal.check-requires-clause-within
+check-requires-clause-within g c =
+    once_within c.one_document.ensures c.args.doc.now c.requires.read.0 c.args.places.now (request_of (print_view c.args.job.now)) c.requires.read c.requires.read.1 c.requires.within (c.requires.chosen c.requires.read.0 c.requires.read.1)
 
 pub check-requires-clause-rasters : goal.check-requires-clause-rasters
 check-requires-clause-rasters g c =
-    let gains = c.in_ok-fonts.ensures.gains c.requires.read.0 c.requires.read.1 in
+    let d = c.requires.read.0 in
+    let is = c.requires.read.1 in
+    let are = once_pages c.one_document.ensures c.args.doc.now d c.args.places.now (request_of (print_view c.args.job.now)) c.requires.read is c.requires.within (c.requires.chosen d is) c.requires.job.collated in
+    let gains = c.in_ok-fonts.ensures.gains _ are in
     rasters_of c.in_ok-fonts.fonts gains.extends.want c.bitmaps_are_rows.ensures.wanted
 
-pub check-requires-clause-conv : goal.check-requires-clause-conv
-check-requires-clause-conv g c =
-    let gains = c.in_ok-fonts.ensures.gains c.requires.read.0 c.requires.read.1 in
-    c.in_ok-scale.ensures.conv ∙ ap pixels_of_one (sym gains.extends.units)
+pub check-requires-clause-across : goal.check-requires-clause-across
+check-requires-clause-across g c =
+    let d = c.requires.read.0 in
+    let is = c.requires.read.1 in
+    let are = once_pages c.one_document.ensures c.args.doc.now d c.args.places.now (request_of (print_view c.args.job.now)) c.requires.read is c.requires.within (c.requires.chosen d is) c.requires.job.collated in
+    let gains = c.in_ok-fonts.ensures.gains _ are in
+    ap (λ (w : Walk). w.grid.across) c.in_ok-walker.ensures ∙ c.in_ok-across.ensures.conv ∙ ap pixels_of_one (sym gains.extends.units)
 
-pub returns-in_err-walker-clause-leaves : goal.returns-in_err-walker-clause-leaves
-returns-in_err-walker-clause-leaves g c = λ told source kept same.
+pub returns-in_err-notes-clause-leaves : goal.returns-in_err-notes-clause-leaves
+returns-in_err-notes-clause-leaves g c = λ told s kept same.
     let shelf = g.S.Shelf.told in
     let seen = g.T.Tray.seen in
-    let p = err_from_is_err_and c.from_residual-in_err-walker.result c.from_residual-in_err-walker.ensures.1 in
+    let job = print_view c.args.job.now in
+    let r = c.args.doc.now in
+    let places = c.args.places.now in
     let one = c.one_document.ensures in
-    let is = is_here (job_view c.args.job.now) told source c.args.doc.now one c.requires.read same in
+    let is = is_here job told s r one c.requires.read same in
+    let d = s.source.doc in
+    let p = err_from_is_err_and c.from_residual-in_err-notes.result c.from_residual-in_err-notes.ensures.1 in
+    let are = once_pages one r d places (request_of job) c.requires.read is c.requires.within (c.requires.chosen d is) c.requires.job.collated in
+    let scale = c.in_ok-across.ensures.units d is in
+    let scale_down = c.in_ok-down.ensures.units d is in
+    let grid = walker_grid d job c.in_ok-walker.walker _ _ _ _ _ c.in_ok-walker.ensures (search rules) scale.0 scale_down.0 c.in_ok-across.ensures.conv c.in_ok-down.ensures.conv in
     rw (p.1, p.2)
-    (refused_leaves (job_view c.args.job.now) told (shelf c.load.new.shelf) (seen c.args.tray.now) c.in_err-walker.field-0.0
-    (no_marks (job_view c.args.job.now) told source c.args.doc.now one c.requires.read same (shelf c.load.new.shelf) c.in_ok-fonts.fonts c.in_ok-scale.scale.units c.in_ok-scale.scale.conv (shelf c.args.shelf.now) c.in_err-walker.field-0.0
-    (c.in_ok-scale.ensures.units source.doc is) c.in_ok-scale.ensures.conv kept (c.in_ok-fonts.ensures.gains source.doc is) (c.in_ok-fonts.ensures.covers source.doc is) (c.in_err-walker.ensures.reason source.doc is)))
+    (refused_undone job told (shelf c.load.new.shelf) (seen c.args.tray.now) c.in_err-notes.field-0.0
+    (no_marks job told s r one c.requires.read same c.in_ok-across.across.units c.in_ok-down.down.units scale scale_down (shelf c.args.shelf.now) kept c.in_ok-fonts.fonts (c.in_ok-fonts.ensures.gains _ are) (c.in_ok-fonts.ensures.covers _ are)
+    c.in_ok-walker.walker.grid grid (shelf c.load.new.shelf) c.in_err-notes.field-0.0 (c.in_err-notes.ensures.reason _ are)))
 
-pub write-requires-clause-writable : goal.write-requires-clause-writable
-write-requires-clause-writable g c =
-    let grid = sym (ap (λ (w : Walk). w.grid) c.in_ok-walker.ensures.grid) in
-    record {
-      read = c.requires.read;
-      short = omega (arith, c.requires.short);
-      many = few_pages c.args.doc.now c.requires.short c.requires.read;
-      known = c.bitmaps_are_rows.ensures.few;
-      rows = c.bitmaps_are_rows.ensures.rows;
-      ready = λ d is. subst (λ (x : Grid). Each (IsReady x c.in_ok-fonts.fonts c.args.doc.now.fonts) d.pages) grid (c.in_ok-walker.ensures.ready d is);
-      begins = ap (λ (w : Walk). w.steps) c.in_ok-walker.ensures.grid;
-      few = c.in_ok-walker.ensures.few;
-      uses = λ d is. subst (λ (x : Grid). HasTaken c.in_ok-walker.usage (marks_in x c.in_ok-fonts.fonts c.args.doc.now.fonts d.pages)) grid (c.in_ok-walker.ensures.uses d is);
-      same = c.in_ok-walker.ensures.same;
-    }
+pub print_ready-requires-clause-walkable : goal.print_ready-requires-clause-walkable
+print_ready-requires-clause-walkable g c =
+    let d = c.requires.read.0 in
+    let is = c.requires.read.1 in
+    let asked = request_of (print_view c.args.job.now) in
+    let are = once_pages c.one_document.ensures c.args.doc.now d c.args.places.now asked c.requires.read is c.requires.within (c.requires.chosen d is) c.requires.job.collated in
+    subst (λ (g : Grid). IsWalkable c.args.doc.now c.args.places.now g c.in_ok-fonts.fonts) (sym c.check.ensures.kept)
+    (walkable c.one_document.ensures c.args.doc.now d c.args.places.now asked c.requires.read is c.requires.within (c.requires.chosen d is) c.in_ok-walker.walker.grid c.in_ok-fonts.fonts (let short = c.requires.short in omega (arith, short)) (c.in_ok-notes.ensures.ready _ are))
+
+pub print_ready-requires-clause-noted : goal.print_ready-requires-clause-noted
+print_ready-requires-clause-noted g c =
+    let d = c.requires.read.0 in
+    let is = c.requires.read.1 in
+    let are = once_pages c.one_document.ensures c.args.doc.now d c.args.places.now (request_of (print_view c.args.job.now)) c.requires.read is c.requires.within (c.requires.chosen d is) c.requires.job.collated in
+    (_, c.in_ok-notes.ensures.noted _ are)
+
+pub returns-in_err-headers-clause-leaves : goal.returns-in_err-headers-clause-leaves
+returns-in_err-headers-clause-leaves g c = λ told s kept same.
+    let shelf = g.S.Shelf.told in
+    let seen = g.T.Tray.seen in
+    let job = print_view c.args.job.now in
+    let r = c.args.doc.now in
+    let places = c.args.places.now in
+    let one = c.one_document.ensures in
+    let is = is_here job told s r one c.requires.read same in
+    let d = s.source.doc in
+    let p = err_from_is_err_and c.from_residual-in_err-headers.result c.from_residual-in_err-headers.ensures.1 in
+    let are = once_pages one r d places (request_of job) c.requires.read is c.requires.within (c.requires.chosen d is) c.requires.job.collated in
+    let scale = c.in_ok-across.ensures.units d is in
+    let scale_down = c.in_ok-down.ensures.units d is in
+    let grid = walker_grid d job c.in_ok-walker.walker _ _ _ _ _ c.in_ok-walker.ensures (search rules) scale.0 scale_down.0 c.in_ok-across.ensures.conv c.in_ok-down.ensures.conv in
+    let fonts = fonts_here job told s r one c.requires.read same in
+    let cov = covered_of job told s r one c.requires.read same c.in_ok-across.across.units c.in_ok-down.down.units scale scale_down (shelf c.args.shelf.now) kept c.in_ok-fonts.fonts (c.in_ok-fonts.ensures.gains _ are) (c.in_ok-fonts.ensures.covers _ are) in
+    let noted = noted_here job c.in_ok-notes.notes c.in_ok-fonts.fonts c.in_ok-walker.walker.grid (grid_of d job) r.fonts d.fonts (chosen d job) grid fonts (c.in_ok-notes.ensures.noted _ are) in
+    rw (p.1, p.2)
+    (refused_undone job told (shelf c.headers_of.new.shelf) (seen c.args.tray.now) c.in_err-headers.field-0.0
+    (no_headers job told (shelf c.load.new.shelf) (shelf c.headers_of.new.shelf) (marked job told cov c.in_ok-walker.walker.grid r.fonts grid fonts (c.in_ok-notes.ensures.ready _ are)) c.in_err-headers.field-0.0
+    (keeps_on _ _ _ kept c.in_ok-fonts.ensures.keeps) (c.in_err-headers.ensures.cause job (chosen_marks cov) noted)))
 
 pub returns-clause-leaves : goal.returns-clause-leaves
-returns-clause-leaves g c = λ told source kept same.
+returns-clause-leaves g c = λ told s kept same.
     let shelf = g.S.Shelf.told in
+    let job = print_view c.args.job.now in
+    let r = c.args.doc.now in
+    let places = c.args.places.now in
     let one = c.one_document.ensures in
-    let is = is_here (job_view c.args.job.now) told source c.args.doc.now one c.requires.read same in
-    let scale = c.in_ok-scale.ensures.units source.doc is in
-    c.write.ensures.leaves told (shelf c.load.new.shelf)
-    (covered_of (job_view c.args.job.now) told source c.args.doc.now one c.requires.read same c.in_ok-fonts.fonts c.in_ok-scale.scale.units (shelf c.args.shelf.now) scale kept (c.in_ok-fonts.ensures.gains source.doc is) (c.in_ok-fonts.ensures.covers source.doc is))
+    let is = is_here job told s r one c.requires.read same in
+    let d = s.source.doc in
+    let are = once_pages one r d places (request_of job) c.requires.read is c.requires.within (c.requires.chosen d is) c.requires.job.collated in
+    let scale = c.in_ok-across.ensures.units d is in
+    let scale_down = c.in_ok-down.ensures.units d is in
+    let grid = walker_grid d job c.in_ok-walker.walker _ _ _ _ _ c.in_ok-walker.ensures (search rules) scale.0 scale_down.0 c.in_ok-across.ensures.conv c.in_ok-down.ensures.conv in
+    let ready = c.in_ok-notes.ensures.ready _ are in
+    let fonts = fonts_here job told s r one c.requires.read same in
+    let cov = covered_of job told s r one c.requires.read same c.in_ok-across.across.units c.in_ok-down.down.units scale scale_down (shelf c.args.shelf.now) kept c.in_ok-fonts.fonts (c.in_ok-fonts.ensures.gains _ are) (c.in_ok-fonts.ensures.covers _ are) in
+    let noted = noted_here job c.in_ok-notes.notes c.in_ok-fonts.fonts c.in_ok-walker.walker.grid (grid_of d job) r.fonts d.fonts (chosen d job) grid fonts (c.in_ok-notes.ensures.noted _ are) in
+    c.print_ready.ensures.leaves told (shelf c.headers_of.new.shelf) cov
     (record {
       bytes = same;
       fonts = refl;
-      grid = ap (λ (w : Walk). w.grid) c.in_ok-walker.ensures.grid ∙ grid_here (job_view c.args.job.now) told source c.args.doc.now one c.requires.read same c.in_ok-scale.scale.units c.in_ok-scale.scale.conv scale c.in_ok-scale.ensures.conv;
-      numbered = c.in_ok-fonts.ensures.numbered source.doc is (ready_expands c.expanding.ensures (grid_with c.in_ok-scale.scale.conv) c.in_ok-fonts.fonts c.args.doc.now.fonts source.doc.pages (c.in_ok-walker.ensures.ready source.doc is));
+      grid = c.check.ensures.kept ∙ grid;
+      places_are = c.requires.chosen d is;
+      ready = subst (λ (g : Grid). Each (IsReady g c.in_ok-fonts.fonts r.fonts) (chosen d job)) (sym c.check.ensures.kept) ready;
+      steps = c.in_ok-notes.ensures.few _ are;
+      numbered = c.in_ok-fonts.ensures.numbered _ are (ready_expands c.expanding.ensures c.in_ok-walker.walker.grid c.in_ok-fonts.fonts r.fonts (chosen d job) ready);
+    })
+    noted
+    (record {
+      few = c.in_ok-headers.ensures.few job (chosen_marks cov) noted;
+      held = each_before told (shelf c.load.new.shelf) _ _ (keeps_on _ _ _ kept c.in_ok-fonts.ensures.keeps) (c.in_ok-headers.ensures.held job (chosen_marks cov) noted);
     })

@@ -1,22 +1,15 @@
-use Rattle.std.proofs.Common.{refl, sym}
-use Rattle.dv_base.specs.FileName.{text_of}
-use Rattle.dv_top.specs.JobView.{job_view}
-use Rattle.dv_top.proofs.Ended.{not_read, refused_leaves}
+use Rattle.std.proofs.Common.{map}
+use Rattle.std.specs.String.{string_bytes}
+use Rattle.dv_top.proofs.AskedJobs.{good_job}
+use Rattle.dv_top.proofs.AskedSample.{sample_pages}
+use Rattle.dv_top.proofs.WrittenJob.{finished_leaves}
 use Rattle.dv_top.proofs.run.run_job.Goals as goal
 
-pub returns-in-Ok-print_bytes-clause-leaves : goal.returns-in-Ok-print_bytes-clause-leaves
-returns-in-Ok-print_bytes-clause-leaves g c =
-    let told = g.S.Shelf.told in
-    c.in-Ok-print_bytes.ensures.leaves (told c.args.shelf.now) (record { bytes = c.in-Ok.bytes.items; few = c.in-Ok.ensures.bytes.0; held = c.in-Ok.ensures.bytes.1 }) c.read_input.ensures.keeps (sym c.deref.ensures.value)
+pub print_job-requires : goal.print_job-requires
+print_job-requires g c = record { job = good_job (map string_bytes c.args.words.now) _ (rw c.in-Print.is at c.requires.asked) }
+
+pub sample_job-requires : goal.sample_job-requires
+sample_job-requires g c = sample_pages (map string_bytes c.args.words.now) _ (rw c.in-Sample.is at c.requires.asked)
 
 pub returns-in-Ok-clause-leaves : goal.returns-in-Ok-clause-leaves
-returns-in-Ok-clause-leaves g c =
-    let told = g.S.Shelf.told in
-    c.in-Err-print_bytes.ensures.leaves (told c.args.shelf.now) (record { bytes = c.in-Ok.bytes.items; few = c.in-Ok.ensures.bytes.0; held = c.in-Ok.ensures.bytes.1 }) c.read_input.ensures.keeps (sym c.deref.ensures.value)
-
-pub returns-clause-leaves : goal.returns-clause-leaves
-returns-clause-leaves g c =
-    let told = g.S.Shelf.told in
-    let seen = g.T.Tray.seen in
-    refused_leaves (job_view c.args.job.now) (told c.args.shelf.now) (told c.read_input.new.shelf) (seen c.args.tray.now) c.in-Err.outcome
-    (not_read (job_view c.args.job.now) (told c.args.shelf.now) (told c.read_input.new.shelf) (text_of c.args.job.now.input) c.in-Err.outcome refl c.in-Err.ensures.cause)
+returns-in-Ok-clause-leaves g c = rw c.in-Print.is (finished_leaves _ _ _ _ _ _ c.in-Ok.ensures.leaves)

@@ -15,5 +15,5 @@ pub returns-clause-complete : goal.returns-clause-complete
 returns-clause-complete g c =
     let told = g.S.Shelf.told in
     let seen = g.T.Tray.seen in
-    complete c.one_document.ensures c.one_font.ensures c.can_be_had.ensures (map string_bytes c.args.words.now) (told c.args.shelf.now) (told c.run_words-outcome.new.shelf) (seen c.args.tray.now) (seen c.run_words-outcome.new.tray) (seen c.say.new.tray) c.run_words-outcome.result
-    c.run_words-outcome.ensures.leaves c.say.ensures
+    complete c.one_document.ensures c.one_font.ensures c.can_be_had.ensures c.one_job.ensures (map string_bytes c.args.words.now) (told c.args.shelf.now) (told c.run_words-outcome.new.shelf) (seen c.args.tray.now) (seen c.run_words-outcome.new.tray) (seen c.say.new.tray)
+    c.run_words-outcome.result c.run_words-outcome.ensures.leaves c.say.ensures

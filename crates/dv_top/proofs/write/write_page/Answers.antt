@@ -1,10 +1,9 @@
-use Rattle.std.proofs.Common.{◌≡◌, ◌∙◌, rules, w32, subst, sym, ap}
+use Rattle.std.proofs.Common.{◌∙◌, rules, w32, subst, sym}
 use Rattle.std.specs.Prelude.{FitsSigned}
 use Rattle.std.proofs.lemmas.Int.{to_z-of_z}
 use Rattle.font_set.specs.Covers.{Covers}
 use Rattle.font_set.specs.Fonts.{FontSet}
 use Rattle.font_set.specs.Frames.{acts_of}
-use Rattle.vf_expand.specs.Takes.{RefusesNext}
 use Rattle.vf_expand.proofs.Later.{no_stop}
 use Rattle.ps_emit.specs.Shown.{holds_more, out_of}
 use Rattle.ps_emit.specs.Taken.{AllTakeable, Refused, Took}
