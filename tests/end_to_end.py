@@ -5,7 +5,11 @@ import sys
 from fractions import Fraction
 
 import documents as dvi
+import gathering
+import options
 import printing
+import rows
+import samples
 from running import PROGRAM, STORED, Folder, check, counts, refused_in, text
 
 def refused(name, content, status, message, words=("dvips", "-D", "300", "-o", "out.ps", "in.dvi")):
@@ -78,32 +82,9 @@ def streamed(folder, output):
     return status, said
 
 
-def words():
-    good = ["dvips", "-D", "300", "-o", "out.ps", "in.dvi"]
-    wrong = {
-        0: ["dvitype", "", "-dvips"],
-        1: ["-d", "-D300", "in.dvi"],
-        2: ["9", "10001", "-300", "+300", "3OO", "", "00000000300"],
-        3: ["-O", "out.ps"],
-        4: ["", "o" * 501, "a b", "\u00e9"],
-        5: ["-x", "", "a b", "i" * 501],
-    }
-    for index, candidates in wrong.items():
-        for word in candidates:
-            bad = good[:index] + [word] + good[index + 1 :]
-            refused(f"word {index} {word!r}", dvi.RULE, 2, b"BadWords %d" % index, bad)
-    for length in range(6):
-        refused(f"{length} words", dvi.RULE, 2, b"BadWords %d" % length, good[:length])
-    refused("seven words", dvi.RULE, 2, b"BadWords 6", good + ["in.dvi"])
-    with Folder(in_dvi=dvi.RULE, out_ps=b"as it was") as folder:
-        for place in range(6):
-            check(f"word {place} not UTF-8", folder.run(*good[:place], b"\xff", *good[place + 1 :]), (6, b"", b""))
-        check("words not UTF-8, output", folder.get("out.ps"), b"as it was")
-
-
 def inputs():
     refused("no input", None, 1, b"Missing in.dvi")
-    refused("a long input", dvi.RULE + b"\xdf" * 1_000_000, 1, b"FileTooLong in.dvi")
+    refused("a long input", dvi.RULE + b"\xdf" * 67_108_864, 1, b"FileTooLong in.dvi")
     with Folder() as folder:
         os.mkdir(os.path.join(folder.path, "in.dvi"))
         check("a folder as input", folder.run("dvips", "-D", "300", "-o", "out.ps", "in"), (3, b"", b"texdvi: ReadFault in.dvi\n"))
@@ -145,8 +126,6 @@ def pages():
     refused("a push left open", dvi.document([(1, dvi.PUSH)]), 1, b"StackLeft page 61")
     refused("a far move", dvi.document([(1, dvi.right(2**31 - 1) + dvi.right(1))]), 1, b"Overflow page 65")
     refused("a large rule", dvi.document([(1, dvi.put_rule(-(2**31), 1))]), 1, b"Overflow page 60")
-    special = b"\xef\x05hello"
-    prints("a special", dvi.document([(1, special + dvi.RULES)]), [(1, b"1 w\n3 1 v\n")])
     many = dvi.document([(n % 1000, dvi.put_rule(pixel, pixel)) for n in range(10_000)])
     prints("ten thousand pages", many, [(n % 1000, b"2 2 v\n") for n in range(10_000)])
     wide = dvi.document([(1, (dvi.put_rule(pixel, pixel) + b"\x8f\x7f") * 60_000)])
@@ -174,11 +153,14 @@ def moves():
     prints("rules without ink", dvi.document([(1, none + dvi.set_rule(0, 0) + dvi.set_rule(-3, -15788))]), [(1, b"")])
 
 
+PARTS = options.PARTS + samples.PARTS + printing.PARTS + rows.PARTS + gathering.PARTS
+
+
 def main():
     if not os.path.exists(PROGRAM):
         print(f"tests/run: {PROGRAM} is not there; run rt ci first")
         return 1
-    for part in (files_and_streams, long_outputs, lost_outputs, words, inputs, documents, pages, moves) + printing.PARTS:
+    for part in (files_and_streams, long_outputs, lost_outputs, inputs, documents, pages, moves) + PARTS:
         part()
     print("{passed} passed, {failed} failed".format(**counts))
     return 1 if counts["failed"] else 0

@@ -37,11 +37,11 @@ def printed(name, content, files, loaded, lines, dpi=300):
         check(name + ", text", folder.get("out.ps"), text(b"in.dvi", [(1, lines)], dpi, loaded))
 
 
-def shown(name, content, files, dpi=300):
+def shown(name, content, files, dpi=300, warnings=b""):
     """A document is printed, and its text, read back, shows what a plain reading of the document gives. Answers what was read back."""
     with with_fonts(content, files) as folder:
         status, out, said = folder.run("dvips", "-D", str(dpi), "-o", "-", "in")
-        check(name, (status, said), (0, b""))
+        check(name, (status, said), (0, warnings))
     read = Pages(out) if status == 0 else None
     if read:
         check(name + ", what it shows", read.pages, Document({**files, "in.dvi": content}, "in.dvi", dpi).shown())
@@ -126,7 +126,8 @@ def packets():
     first["virt.vf"] = fonts.vf([(0, b"cmr10", fonts.WHOLE, fonts.TEN_POINTS)], {65: b"\x8f\x03" * 2 + A})
     shown("each move of a packet is scaled", one(FNT_0 + A, (b"virt",)), first)
     inside = b"\xef\x02hi" + dvi.PUSH + dvi.put_rule(1 << 18, 1 << 17) + dvi.down(1 << 19) + A + dvi.POP + A
-    shown("a special, a rule and a push in a packet", one(FNT_0 + A * 3, (b"virt",)), {**first, "virt.vf": fonts.over(b"cmr10", inside)[1]})
+    files = {**first, "virt.vf": fonts.over(b"cmr10", inside)[1]}
+    shown("a special, a rule and a push in a packet", one(FNT_0 + A * 3, (b"virt",)), files, warnings=b"texdvi: warning: special hi\n" * 3)
     widths = [b"w1", b"w2", b"w3"]
     read = shown("a thousand glyphs of one character", one(FNT_0 + A, (b"w1",)), virtual(widths, packet=A * 10))
     if read:
