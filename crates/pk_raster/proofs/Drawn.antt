@@ -4,7 +4,8 @@ use Rattle.std.specs.Prelude.{replicate}
 use Rattle.std.specs.List.{flat_map}
 use Rattle.std.proofs.Math.Nat.{mul-le-mul_left}
 use Rattle.std.proofs.lemmas.Bool.Decides.{nat_tests}
-use Rattle.pk_raster.specs.Bits.{bits, padded, colour}
+use Rattle.bit_lanes.specs.Bits.{bits}
+use Rattle.pk_raster.specs.Bits.{padded, colour}
 use Rattle.pk_raster.specs.Glyph.{stride, bitmap_bytes, first_colour, Draws, Pads}
 
 -- a bitmap that is kept has few pixels

@@ -5,7 +5,8 @@ use Rattle.std.specs.List.{flat_map}
 use Rattle.pk_raster.specs.declared.board.Board.{Board}
 use Rattle.pk_raster.specs.declared.board.RasterFault.{RasterFault}
 use Rattle.pk_raster.specs.declared.board.RasterFault.TheVariants as fault
-use Rattle.pk_raster.specs.Bits.{bits, padded}
+use Rattle.bit_lanes.specs.Bits.{bits}
+use Rattle.pk_raster.specs.Bits.{padded}
 use Rattle.pk_raster.specs.Runs.{Item}
 use Rattle.pk_raster.specs.Items.{Spells}
 use Rattle.pk_raster.specs.Runs.{pixels}
@@ -13,7 +14,7 @@ use Rattle.pk_raster.specs.Filling.{Goes, IsFresh}
 use Rattle.pk_raster.specs.Progress.{Left, Reached, Refuses}
 use Rattle.pk_raster.specs.Raster.{IsRaster, FaultIs}
 use Rattle.pk_raster.proofs.Goes.{start, finish, ended}
-use Rattle.pk_raster.proofs.Laying.{bits_zeros}
+use Rattle.bit_lanes.specs.BitLaws.{bits_zeros}
 use Rattle.pk_raster.proofs.Reaching.{pixels_none}
 use Rattle.pk_raster.proofs.Positive.{some_pixels}
 

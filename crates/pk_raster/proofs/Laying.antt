@@ -5,21 +5,12 @@ use Rattle.std.specs.Prelude.{replicate}
 use Rattle.std.specs.List.{concat, flat_map}
 use Rattle.std.proofs.Math.Nat.{mul-le-mul_left}
 use Rattle.pk_raster.specs.declared.board.Board.{Board}
-use Rattle.pk_raster.specs.Bits.{bits, padded}
+use Rattle.bit_lanes.specs.Bits.{bits}
+use Rattle.bit_lanes.specs.BitLaws.{bits-append, bits_zeros}
+use Rattle.pk_raster.specs.Bits.{padded}
 use Rattle.pk_raster.specs.Runs.{Item, Run, Single, repeats}
 use Rattle.pk_raster.specs.Filling.{Goes, Shows, Mid, Ran, Passes, Ended}
-use Rattle.pk_raster.proofs.Rows.{replicate_add}
 use Rattle.pk_raster.proofs.Goes.{longer, inside, inside_back, full, full_back, at_least, single_on}
-
-pub bits-append : (xs ys : List ℕ) → bits (xs ++ ys) ≡ bits xs ++ bits ys
-unfolding bits
-bits-append [] ys = refl
-bits-append (x ∷ xs) ys = let e = bits-append xs ys in cc
-
-pub bits_zeros : (n : ℕ) → bits (replicate n 0) ≡ replicate (8 * n) 0
-unfolding bits
-bits_zeros zero = refl
-bits_zeros (suc n) = let e : 8 * suc n ≡ 8 + 8 * n = omega arith in rw e (ap (λ xs. 0 ∷ 0 ∷ 0 ∷ 0 ∷ 0 ∷ 0 ∷ 0 ∷ 0 ∷ xs) (bits_zeros n) ∙ sym (replicate_add 8 (8 * n) 0))
 
 bits_times : (n t : ℕ) (row : List ℕ) (shown : List ℕ) → bits row ≡ padded n shown → bits (concat (replicate t row)) ≡ flat_map (padded n) (replicate t shown)
 unfolding bits

@@ -10,7 +10,6 @@ pub mod Reaching
 pub mod Running
 pub mod Positive
 pub mod Ending
-pub mod Pixelwise
 pub mod Wholes
 pub mod Parted
 pub mod Drawn

@@ -1,30 +1,8 @@
-use Rattle.std.proofs.Common.{◌≡◌, ℕ, zero, suc, ◌-◌, ◌*◌, ◌/◌, ◌%◌, ◌<◌, ◌≤◌, inl, inr, refl, sym, ◌∙◌, ap, arith, List, [], ◌∷◌, ◌++◌, get_or, length, take, drop, replicate, length-append, length-take, length-drop, get_or-drop, get_or-take}
+use Rattle.std.proofs.Common.{◌≡◌, ℕ, ◌-◌, ◌*◌, ◌<◌, ◌≤◌, inl, inr, sym, ◌∙◌, ap, arith, List, ◌++◌, get_or, length, take, drop, replicate, length-append, length-take, length-drop, get_or-drop, get_or-take}
 use Rattle.std.proofs.lemmas.Bool.{cases_lt}
 use Rattle.std.proofs.lemmas.List.{same_lists, get_or_append_left, get_or-append_right, get_or-replicate, length-replicate, get_or_default}
-use Rattle.std.proofs.lemmas.Nat.Bits.{bit_at-zero}
-use Rattle.std.specs.Int.{bit_at}
-use Rattle.pk_raster.specs.Bits.{bits, bit}
-
-pub length_bits : (bs : List ℕ) → length (bits bs) ≡ 8 * length bs
-unfolding bits
-length_bits [] = refl
-length_bits (b ∷ bs) = let e = length_bits bs in omega (arith, e)
-
-pub at_bits : (bs : List ℕ) (i : ℕ) → get_or (bits bs) i 0 ≡ bit bs i
-unfolding bits bit
-at_bits [] i = sym (bit_at-zero (7 - i % 8))
-at_bits (b ∷ bs) zero = refl
-at_bits (b ∷ bs) (suc zero) = refl
-at_bits (b ∷ bs) (suc (suc zero)) = refl
-at_bits (b ∷ bs) (suc (suc (suc zero))) = refl
-at_bits (b ∷ bs) (suc (suc (suc (suc zero)))) = refl
-at_bits (b ∷ bs) (suc (suc (suc (suc (suc zero))))) = refl
-at_bits (b ∷ bs) (suc (suc (suc (suc (suc (suc zero)))))) = refl
-at_bits (b ∷ bs) (suc (suc (suc (suc (suc (suc (suc zero))))))) = refl
-at_bits (b ∷ bs) (suc (suc (suc (suc (suc (suc (suc (suc i)))))))) =
-    let d : (suc (suc (suc (suc (suc (suc (suc (suc i)))))))) / 8 ≡ suc (i / 8) = omega arith in
-    let m : (suc (suc (suc (suc (suc (suc (suc (suc i)))))))) % 8 ≡ i % 8 = omega arith in
-    at_bits bs i ∙ ap (λ k. bit_at (get_or (b ∷ bs) k 0) (7 - i % 8)) (sym d) ∙ ap (λ k. bit_at (get_or (b ∷ bs) ((suc (suc (suc (suc (suc (suc (suc (suc i)))))))) / 8) 0) (7 - k)) (sym m)
+use Rattle.bit_lanes.specs.Bits.{bits, bit}
+use Rattle.bit_lanes.specs.BitLaws.{length_bits, at_bits}
 
 -- a list with ones from start to end, by its places
 pub overlaid : (xs ys : List ℕ) (start end : ℕ) → length ys ≡ length xs → start ≤ end → end ≤ length xs →

@@ -1,22 +1,23 @@
 -- Bytes are a PK file of one font at most, and its bitmaps have the rows that their sizes say.
-use Rattle.std.proofs.Common.{◌≡◌, ◌≢◌, ℕ, zero, suc, ◌+◌, ◌*◌, ◌/◌, ◌%◌, ◌^◌, ◌<◌, ◌≤◌, ⊎_elim, refl, sym, ◌∙◌, ap, subst, arith, List, [], ◌∷◌, ◌++◌, length, drop, get_or, slice_index, Some, None}
+use Rattle.std.proofs.Common.{◌≡◌, ℕ, suc, ◌*◌, ◌<◌, ◌≤◌, ⊎_elim, refl, sym, ◌∙◌, ap, subst, arith, List, [], ◌∷◌, ◌++◌, length, drop, get_or, slice_index}
 use Rattle.std.specs.Prelude.{replicate}
 use Rattle.std.specs.List.{AllByRecursion, flat_map}
 use Rattle.std.specs.Int.{bit_at}
 use Rattle.std.proofs.lemmas.Bool.{cases_eq, cases_lt}
 use Rattle.std.proofs.lemmas.List.{same_lists, append-nil, get_or_default}
-use Rattle.pk_raster.specs.Bits.{bits, byte_bits, padded}
+use Rattle.bit_lanes.specs.Bits.{bits, byte_bits}
+use Rattle.pk_raster.specs.Bits.{padded}
 use Rattle.pk_raster.specs.Font.{Font, Known, Bitmap, glyph_at}
 use Rattle.pk_raster.specs.Font.Known.{Nothing, Large, Bits}
-use Rattle.pk_raster.specs.Parts.{Packet, Part, Parts, part_at}
-use Rattle.pk_raster.specs.Glyph.{IsGlyph, IsBitmap, Draws, Pads, width, height, raster, stride, bitmap_bytes}
+use Rattle.pk_raster.specs.Parts.{Packet, Part, Parts}
+use Rattle.pk_raster.specs.Glyph.{IsGlyph, IsBitmap, Pads, width, height, raster, stride, bitmap_bytes}
 use Rattle.pk_raster.specs.File.{IsPk, Tells, characters, times, body_at}
 use Rattle.pk_raster.specs.Laws.{AreRows}
 use Rattle.pk_raster.proofs.Rows.{cut}
 use Rattle.pk_raster.proofs.Parted.{end_is_none}
 use Rattle.pk_raster.proofs.Filed.{next}
 use Rattle.pk_raster.proofs.OneRaster.{draws_one}
-use Rattle.pk_raster.proofs.Telling.{times_here, times_other, times_nil, drawn_rows, drawn_bytes, some_told}
+use Rattle.pk_raster.proofs.Telling.{times_other, times_nil, drawn_rows, drawn_bytes, some_told}
 
 -- bytes are told by their bits
 byte_one : (a b : ℕ) → a < 256 → b < 256 → byte_bits a ≡ byte_bits b → a ≡ b

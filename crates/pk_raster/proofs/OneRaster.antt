@@ -1,12 +1,12 @@
 -- A raster draws its rows in one way.
-use Rattle.std.proofs.Common.{◌≡◌, ◌≢◌, ℕ, zero, suc, ◌+◌, ◌*◌, ◌<◌, ◌≤◌, ⊎_elim, refl, sym, ◌∙◌, ap, subst, arith, List, [], ◌∷◌, ◌++◌, length, Option, Some, None}
+use Rattle.std.proofs.Common.{◌≡◌, ℕ, zero, suc, ◌*◌, ◌<◌, ⊎_elim, refl, sym, ◌∙◌, ap, subst, arith, List, [], ◌∷◌, length}
 use Rattle.std.specs.List.{concat, AllByRecursion}
 use Rattle.std.proofs.lemmas.Bool.{cases_eq}
 use Rattle.std.proofs.lemmas.Option.{same_Some}
-use Rattle.pk_raster.specs.Bits.{bits}
+use Rattle.bit_lanes.specs.Bits.{bits}
 use Rattle.pk_raster.specs.Numbers.{nybbles}
 use Rattle.pk_raster.specs.Runs.{Item, Makes, pixels, repeated, repeats, colours}
-use Rattle.pk_raster.specs.Items.{Spells, item_at}
+use Rattle.pk_raster.specs.Items.{Spells}
 use Rattle.pk_raster.specs.Raster.{IsRaster, IsPlain}
 use Rattle.pk_raster.specs.Glyph.{Draws, dyn_f, first_colour}
 use Rattle.pk_raster.proofs.Rows.{cut}

@@ -1,7 +1,7 @@
 use Rattle.std.proofs.Common.{◌≡◌, ℕ, ◌+◌, ◌-◌, ◌/◌, ◌%◌, ◌<◌, ◌≤◌, ◌≢◌, ◌⊎◌, inl, inr, sym, ◌∙◌, ap, arith, List, set, get_or, length, get_or-set_same, get_or-set_other}
 use Rattle.std.proofs.lemmas.Bool.{cases_eq}
 use Rattle.std.specs.Int.{bit_at}
-use Rattle.pk_raster.specs.Bits.{bit}
+use Rattle.bit_lanes.specs.Bits.{bit}
 
 module _ (row : List ℕ) (k v : ℕ) (within : k < length row) where
   hit : (i : ℕ) → i / 8 ≡ k → bit (set row k v) i ≡ bit_at v (7 - i % 8)

@@ -14,7 +14,7 @@ use Rattle.pk_raster.specs.Parts.{Packet, Part}
 use Rattle.pk_raster.specs.Parts.Part.{Other, Character}
 use Rattle.pk_raster.specs.Glyph.{IsGlyph, Draws, Pads, width, height, bitmap_bytes, stride, dyn_f}
 use Rattle.pk_raster.specs.File.{characters, times, Tells}
-use Rattle.pk_raster.proofs.Lists.{length_bits}
+use Rattle.bit_lanes.specs.BitLaws.{length_bits}
 
 -- a font with one entry changed
 abbrev pub with_glyph : Font → ℕ → Known → Font

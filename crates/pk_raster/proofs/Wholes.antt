@@ -1,14 +1,16 @@
-use Rattle.std.proofs.Common.{◌≡◌, ℕ, zero, suc, ◌+◌, ◌*◌, ◌<◌, ◌≤◌, refl, sym, ◌∙◌, ap, arith, List, [], ◌∷◌, ◌++◌, length, take, drop, length-append, length-drop}
+use Rattle.std.proofs.Common.{◌≡◌, ℕ, zero, suc, ◌+◌, ◌*◌, ◌<◌, ◌≤◌, refl, sym, ◌∙◌, ap, arith, List, [], ◌∷◌, ◌++◌, length, take, drop, length-append, length-take, length-drop}
 use Rattle.std.proofs.lemmas.List.{append-nil, take-append-drop}
 use Rattle.std.proofs.lemmas.List.Concat.{flat_map-append}
 use Rattle.std.proofs.lemmas.List.Folds.{concat-append}
-use Rattle.std.specs.Prelude.{replicate}
 use Rattle.std.specs.List.{concat, flat_map, AllByRecursion}
-use Rattle.pk_raster.specs.Bits.{bits, padded}
+use Rattle.bit_lanes.specs.Bits.{bits}
+use Rattle.pk_raster.specs.Bits.{padded}
 use Rattle.pk_raster.specs.Raster.{IsPlain}
 use Rattle.pk_raster.specs.Filling.{Copied}
-use Rattle.pk_raster.proofs.Laying.{bits-append}
-use Rattle.pk_raster.proofs.Pixelwise.{taken}
+use Rattle.bit_lanes.specs.BitLaws.{bits-append}
+
+pub taken : (xs : List ℕ) (start n : ℕ) → start + n ≤ length xs → length (take n (drop start xs)) ≡ n
+taken xs start n h = length-take n (drop start xs) ∙ (let e = length-drop start xs in omega (arith, e, h))
 
 pub length_rows : (w : ℕ) (rows : List (List ℕ)) → AllByRecursion (λ row. length row ≡ w) rows → length (concat rows) ≡ length rows * w
 length_rows w [] a = omega arith
@@ -42,7 +44,7 @@ unfolding bits
 none_yet w stride given bytes e = record { made = []; joined = (let z : 0 ≡ 0 * w = omega arith in ap (λ k. take k given) z); wide = tt; count = refl; shown = ap bits e }
 
 pub one_more_row : (w n stride : ℕ) (given bytes row next : List ℕ) → Copied w n stride given bytes → n * w + w ≤ length given →
-    bits row ≡ padded (8 * stride) (take w (drop (n * w) given)) → next ≡ bytes ++ concat (replicate 1 row) → Copied w (n + 1) stride given next
+    bits row ≡ padded (8 * stride) (take w (drop (n * w) given)) → next ≡ bytes ++ row → Copied w (n + 1) stride given next
 one_more_row w n stride given bytes row next c h shown e =
     let new : List ℕ = take w (drop (n * w) given) in
     record {
@@ -50,7 +52,7 @@ one_more_row w n stride given bytes row next c h shown e =
       joined = concat-append c.made (new ∷ []) ∙ ap (λ xs. xs ++ (new ++ [])) c.joined ∙ ap (λ xs. take (n * w) given ++ xs) (append-nil new) ∙ take_sum (n * w) w given ∙ (let z : n * w + w ≡ (n + 1) * w = omega arith in ap (λ k. take k given) z);
       wide = all_push w c.made new c.wide (taken given (n * w) w h);
       count = length-append c.made (new ∷ []) ∙ ap (λ k. k + 1) c.count;
-      shown = ap bits e ∙ bits-append bytes (row ++ []) ∙ ap (λ xs. bits bytes ++ bits xs) (append-nil row) ∙ ap (λ xs. xs ++ bits row) c.shown ∙ ap (λ xs. flat_map (padded (8 * stride)) c.made ++ xs) (shown ∙ sym (append-nil (padded (8 * stride) new))) ∙ sym (flat_map-append (padded (8 * stride)) c.made (new ∷ []));
+      shown = ap bits e ∙ bits-append bytes row ∙ ap (λ xs. xs ++ bits row) c.shown ∙ ap (λ xs. flat_map (padded (8 * stride)) c.made ++ xs) (shown ∙ sym (append-nil (padded (8 * stride) new))) ∙ sym (flat_map-append (padded (8 * stride)) c.made (new ∷ []));
     }
 
 pub whole : (w h stride : ℕ) (given bytes : List ℕ) → Copied w h stride given bytes → h * w ≤ length given → length given < h * w + 8 → (made : List (List ℕ)) × IsPlain w h given made × (bits bytes ≡ flat_map (padded (8 * stride)) made)

@@ -2,7 +2,8 @@
 use Rattle.std.specs.Prelude.{◌≡◌, ℕ, zero, suc, List, [], ◌∷◌, ◌++◌, ◌+◌, ◌-◌, ◌*◌, ◌^◌, ◌<◌, ◌≤◌, length, take, replicate}
 use Rattle.std.specs.List.{concat, flat_map, AllByRecursion}
 use Rattle.pk_raster.specs.Runs.{Item, Run, colours, repeats, Single, repeated}
-use Rattle.pk_raster.specs.Bits.{bits, padded}
+use Rattle.bit_lanes.specs.Bits.{bits}
+use Rattle.pk_raster.specs.Bits.{padded}
 use Rattle.pk_raster.specs.declared.board.Board.{Board}
 use Rattle.pk_raster.specs.declared.board.RasterFault.{RasterFault}
 use Rattle.pk_raster.specs.declared.board.RasterFault.TheVariants as fault

@@ -1,7 +1,8 @@
 -- What a character's packet draws.
 use Rattle.std.specs.Prelude.{◌≡◌, ◌≢◌, ℕ, ℤ, List, [], ◌+◌, ◌*◌, ◌/◌, ◌%◌, ◌^◌, ◌<◌, ◌≤◌, length, drop, slice_index, replicate, unsigned_abs}
 use Rattle.std.specs.List.{flat_map}
-use Rattle.pk_raster.specs.Bits.{bits, padded}
+use Rattle.bit_lanes.specs.Bits.{bits}
+use Rattle.pk_raster.specs.Bits.{padded}
 use Rattle.pk_raster.specs.Numbers.{nybbles}
 use Rattle.pk_raster.specs.Raster.{IsRaster, IsPlain}
 use Rattle.pk_raster.specs.Font.{Known, Bitmap}

@@ -1,6 +1,6 @@
 -- What stands in a packet that draws no glyph.
 use Rattle.std.specs.Prelude.{◌≡◌, ◌≢◌, ℕ, List, ◌*◌, ◌<◌, ◌≤◌, ◌⊎◌, length}
-use Rattle.pk_raster.specs.Bits.{bits}
+use Rattle.bit_lanes.specs.Bits.{bits}
 use Rattle.pk_raster.specs.Numbers.{nybbles}
 use Rattle.pk_raster.specs.Raster.{FaultIs, PlainFaultIs}
 use Rattle.pk_raster.specs.Parts.{Packet}

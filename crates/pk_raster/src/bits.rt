@@ -1,7 +1,7 @@
 //! Bits of bytes, the highest of a byte first.
 ghost use Rattle.std.specs.Prelude.{◌≡◌, ℕ, ◌+◌, ◌-◌, ◌*◌, ◌<◌, ◌≤◌, length, ◌++◌, take, drop, replicate};
 ghost use Rattle.std.specs.Int.{bit_at};
-ghost use Rattle.pk_raster.specs.Bits.{bits};
+ghost use Rattle.bit_lanes.specs.Bits.{bits};
 
 /// The byte with the bits from `from` to `end` set, bit 0 being the highest.
 pub fn with_ones(byte: u8, from: usize, end: usize) -> u8

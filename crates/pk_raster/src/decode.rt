@@ -1,7 +1,8 @@
 //! The rows of a raster of runs.
 ghost use Rattle.std.specs.Prelude.{◌≡◌, ◌≢◌, ℕ, List, ◌+◌, ◌-◌, ◌*◌, ◌^◌, ◌<◌, ◌≤◌, ◌++◌, length, replicate, OnOk, IfErr, IfOk};
 ghost use Rattle.std.specs.List.{flat_map};
-ghost use Rattle.pk_raster.specs.Bits.{bits, colour, padded};
+ghost use Rattle.bit_lanes.specs.Bits.{bits};
+ghost use Rattle.pk_raster.specs.Bits.{colour, padded};
 ghost use Rattle.pk_raster.specs.Numbers.{nybbles};
 ghost use Rattle.pk_raster.specs.Raster.{IsRaster, FaultIs};
 ghost use Rattle.pk_raster.specs.Filling.{IsFresh};

@@ -1,6 +1,6 @@
 //! The bitmap that a character's packet draws.
 ghost use Rattle.std.specs.Prelude.{◌≡◌, ◌≢◌, ◌≤◌, ◌<◌, ◌+◌, ◌*◌, ◌^◌, ℕ, List, length, unsigned_abs, IfOk, IfErr, ◌/◌};
-ghost use Rattle.pk_raster.specs.Bits.{bits};
+ghost use Rattle.bit_lanes.specs.Bits.{bits};
 ghost use Rattle.pk_raster.specs.Numbers.{nybbles};
 ghost use Rattle.pk_raster.specs.Raster.{IsPlain, IsRaster, FaultIs, PlainFaultIs};
 ghost use Rattle.pk_raster.specs.Glyph.{size_bytes, first_size, sizes_len, width, height, right_offset, down_offset, bitmap_bytes, stride, dyn_f, first_colour, Draws, Pads};

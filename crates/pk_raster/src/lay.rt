@@ -1,7 +1,8 @@
 //! Runs, laid on a board.
 ghost use Rattle.std.specs.Prelude.{◌≡◌, ℕ, List, ◌+◌, ◌-◌, ◌*◌, ◌^◌, ◌<◌, ◌≤◌, ◌++◌, length, replicate, OnOk, IfErr};
 ghost use Rattle.std.specs.List.{concat};
-ghost use Rattle.pk_raster.specs.Bits.{bits, colour};
+ghost use Rattle.bit_lanes.specs.Bits.{bits};
+ghost use Rattle.pk_raster.specs.Bits.{colour};
 ghost use Rattle.pk_raster.specs.Filling.{Shows, Ran, PastIs, Ended};
 ghost use Rattle.pk_raster.specs.declared.board.RasterFault.TheVariants.{OutOfMemory};
 

@@ -1,6 +1,7 @@
 //! A run in a row.
 ghost use Rattle.std.specs.Prelude.{◌≡◌, ℕ, List, ◌+◌, ◌-◌, ◌*◌, ◌<◌, ◌≤◌, ◌++◌, length, replicate};
-ghost use Rattle.pk_raster.specs.Bits.{bits, colour};
+ghost use Rattle.bit_lanes.specs.Bits.{bits};
+ghost use Rattle.pk_raster.specs.Bits.{colour};
 
 use crate::bits::blacken;
 

@@ -1,5 +1,5 @@
 use Rattle.std.proofs.Common.{◌-◌, ◌≡◌, ℕ, ◌<◌, ◌≤◌}
-use Rattle.pk_raster.specs.Bits.{bit}
+use Rattle.bit_lanes.specs.Bits.{bit}
 use Rattle.pk_raster.proofs.bits.blacken.Given as goal
 
 abbrev pub invariant-loop-at : goal.invariant-loop-at

@@ -1,13 +1,10 @@
-use Rattle.std.proofs.Common.{◌≡◌, ℕ, ◌+◌, ◌-◌, ◌*◌, ◌≤◌, length, arith, sym, ◌∙◌, ap, subst, ◌++◌, take, drop}
+use Rattle.std.proofs.Common.{rules, ◌≡◌, ℕ, ◌+◌, ◌-◌, ◌*◌, ◌≤◌, length, arith, refl, ◌∙◌, ap, subst, ◌++◌, take, drop}
 use Rattle.std.specs.Prelude.{replicate}
 use Rattle.std.proofs.Math.Nat.{mul-le-mul_left}
-use Rattle.std.proofs.lemmas.List.{length-replicate}
-use Rattle.pk_raster.specs.Bits.{bits}
+use Rattle.bit_lanes.specs.Bits.{bits}
 use Rattle.pk_raster.specs.Filling.{Copied}
-use Rattle.pk_raster.proofs.Lists.{length_bits}
-use Rattle.pk_raster.proofs.Laying.{bits_zeros}
-use Rattle.pk_raster.proofs.Pixelwise.{taken}
-use Rattle.pk_raster.proofs.Wholes.{plain_length, none_yet, one_more_row, whole}
+use Rattle.bit_lanes.specs.BitLaws.{length_bits}
+use Rattle.pk_raster.proofs.Wholes.{taken, plain_length, none_yet, one_more_row, whole}
 use Rattle.pk_raster.proofs.plain.plain.Goals as goal
 
 pub returns-then-raster-need-clause-none : goal.returns-then-raster-need-clause-none
@@ -23,10 +20,7 @@ pub returns-then-raster-need-ge8-clause-fault : goal.returns-then-raster-need-ge
 returns-then-raster-need-ge8-clause-fault c = omega (arith, length_bits c.args.raster.now)
 
 pub loop-index-init : goal.loop-index-init
-loop-index-init c = record { place = omega arith; blank = c.requires.blank; copied = none_yet c.args.width (length c.args.row.now) (bits c.args.raster.now) c.args.rows.now.items c.requires.empty }
-
-pub copy_row-requires-clause-blank : goal.copy_row-requires-clause-blank
-copy_row-requires-clause-blank c = ap bits c.loop-index.invariant.blank ∙ bits_zeros (length c.loop-index.row)
+loop-index-init c = record { place = omega arith; len = refl; copied = none_yet c.args.width (length c.args.row.now) (bits c.args.raster.now) c.args.rows.now.items c.requires.empty }
 
 pub loop-index-preserved : goal.loop-index-preserved
 loop-index-preserved c =
@@ -36,13 +30,12 @@ loop-index-preserved c =
     let inv = c.loop-index.invariant in
     let more : w * (n + 1) ≤ w * c.args.height = mul-le-mul_left w (omega arith) in
     let room : n * w + w ≤ length ns = omega (arith, more, length_bits c.args.raster.now) in
-    let fits : 8 * length c.loop-index.row - w ≡ 8 * length c.args.row.now - length (take w (drop (n * w) ns)) = omega (arith, taken ns (n * w) w room) in
-    let shown = c.copy_row.ensures ∙ ap (λ k. take w (drop k ns) ++ replicate {A = ℕ} (8 * length c.loop-index.row - w) 0) inv.place ∙ ap (λ k. take w (drop (n * w) ns) ++ replicate {A = ℕ} k 0) fits in
-    let cleared = c.in_ok-add_row.ensures.cleared in
+    let fits : 8 * length c.loop-index.row - w ≡ 8 * length c.args.row.now - length (take w (drop (n * w) ns)) = omega (arith, inv.len, taken ns (n * w) w room) in
+    let shown = c.align_row.ensures ∙ ap (λ k. take w (drop k ns) ++ replicate {A = ℕ} (8 * length c.loop-index.row - w) 0) inv.place ∙ ap (λ k. take w (drop (n * w) ns) ++ replicate {A = ℕ} k 0) fits in
     record {
       place = omega (arith, inv.place);
-      blank = cleared ∙ ap (λ k. replicate {A = ℕ} k 0) (sym (ap length cleared ∙ length-replicate (length c.copy_row.new.row) 0));
-      copied = one_more_row w n (length c.args.row.now) ns c.loop-index.rows.items c.copy_row.new.row c.add_row.new.rows.items inv.copied room shown c.in_ok-add_row.ensures.added;
+      len = search rules;
+      copied = one_more_row w n (length c.args.row.now) ns c.loop-index.rows.items c.align_row.new.to c.extend_from_slice.new.self.items inv.copied room shown c.in_ok-extend_from_slice.ensures.items;
     }
 
 pub returns-clause-found : goal.returns-clause-found
