@@ -7,27 +7,30 @@ ghost use Rattle.ps_subset.specs.FontText.{hex_text};
 ghost use Rattle.ps_emit.specs.Letters.{glyph_of};
 ghost use Rattle.ps_emit.specs.LetterLines.{behind_rows, letter_head, letter_tail};
 
+use bit_lanes::is_blank;
 use dv_base::Line;
 use pk_raster::Glyph;
 
 /// What stands behind a glyph's rows has at most this many bytes.
 pub const TAIL: usize = 260;
 
+/// Whether the first byte, where there is one, has a black pixel among its first `columns`.
+fn front_marks(columns: usize, bytes: &[u8]) -> bool
+    requires { columns ≤ 8 }
+    ensures { result ≡ row_marks columns bytes.now }
+{
+    if bytes.is_empty() {
+        return false;
+    }
+    u32::from(bytes[0]) >> (8 - columns) != 0
+}
+
 /// Whether a row has a black pixel among its first `columns`.
 fn row_marks(columns: usize, row: &[u8]) -> bool
     ensures { result ≡ row_marks columns row.now }
 {
-    let mut left = columns;
-    for byte in row {
-        if left <= 8 {
-            return u32::from(*byte) / 2_u32.pow(8 - left as u32) != 0;
-        }
-        if *byte != 0 {
-            return true;
-        }
-        left -= 8;
-    }
-    false
+    let (whole, rest) = row.split_at(row.len().min(columns / 8));
+    !is_blank(whole) || front_marks(columns % 8, rest)
 }
 
 /// Whether one of so many rows of `columns` pixels has a black one.

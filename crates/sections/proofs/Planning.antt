@@ -1,16 +1,17 @@
 -- A planner that is given one page more.
-use Rattle.std.proofs.Common.{◌≡◌, ◌<◌, ◌≤◌, ◌+◌, ◌*◌, ◌-◌, ◌⊎◌, inl, inr, ⊎_elim, ℕ, zero, suc, Bool, true, false, List, [], ◌∷◌, ◌++◌, length, get_or, set, arith, append_assoc, refl, sym, ap, ◌∙◌, subst, Option, Some, None}
+use Rattle.std.proofs.Common.{◌≡◌, ◌<◌, ◌≤◌, ◌+◌, ◌*◌, ◌-◌, ◌⊎◌, inl, inr, ⊎_elim, ℕ, zero, suc, Bool, true, false, List, [], ◌∷◌, ◌++◌, length, take, drop, get_or, set, arith, append_assoc, refl, sym, ap, ◌∙◌, subst, Option, Some, None}
 use Rattle.std.specs.Prelude.{◌||◌, IsTrue, slice_set}
-use Rattle.std.proofs.Math.Seq.{get_or-append_seam}
+use Rattle.std.proofs.Math.Seq.{drop-append_seam, get_or-append_seam, take-append_seam}
 use Rattle.std.specs.List.{sum}
 use Rattle.std.proofs.lemmas.List.{append-nil, length-append}
+use Rattle.std.proofs.lemmas.List.Sums.{fold-append}
 use Rattle.font_set.specs.Fonts.{FontSet}
 use Rattle.positions.specs.Mark.{Mark}
 use Rattle.sections.specs.Used.{Used, is_used, used_in, HasTaken, Joined}
 use Rattle.sections.specs.UsedLaws.{used_both, or_false}
 use Rattle.sections.specs.Cost.{cost, marks_cost, glyph_price, total, IsPriced}
 use Rattle.sections.specs.Sections.{is_few, parts, all_marks, pages_cost, sections}
-use Rattle.sections.specs.Planned.{Planning, IsOpen, IsFresh, IsPlanned}
+use Rattle.sections.specs.Planned.{Planning, IsOpen, IsFresh, IsPlanned, UsesLast, pages_of_last}
 use Rattle.sections.specs.Growing.{IsTaken, IsRefused, last_length}
 use Rattle.sections.proofs.Costs.{total_same, total_least}
 use Rattle.sections.proofs.Plans.{last_section, closed_section}
@@ -72,6 +73,14 @@ set_last closed n m =
     let long : length (closed ++ n ∷ []) - 1 ≡ length closed = omega (arith, length-append closed (n ∷ [])) in
     ap (λ i. set (closed ++ n ∷ []) i m) long ∙ set_seam closed n m
 
+sum_more : (closed : List ℕ) (n : ℕ) → sum (closed ++ n ∷ []) ≡ sum closed + n
+sum_more closed n = fold-append ◌+◌ 0 closed (n ∷ [])
+
+front_of : (closed : List ℕ) (n : ℕ) → take (length (closed ++ n ∷ []) - 1) (closed ++ n ∷ []) ≡ closed
+front_of closed n =
+    let long : length (closed ++ n ∷ []) - 1 ≡ length closed = omega (arith, length-append closed (n ∷ [])) in
+    ap (λ (i : ℕ). take i (closed ++ n ∷ [])) long ∙ take-append_seam closed (n ∷ [])
+
 -- ---- one page more
 
 joined_cost : (set : FontSet) (old other new : Used) (xs : List (List Mark)) (marks : List Mark) → IsPriced set old → IsPriced set other → Joined old other new → HasTaken old (all_marks xs) → HasTaken other marks
@@ -103,7 +112,10 @@ page_joined set p pages usage new marks planned priced taken t =
         let more : length (xs ++ marks ∷ []) ≡ last_length p.lengths + 1 = length-append xs (marks ∷ []) ∙ ap (λ n. n + 1) (sym count) in
         inr (record {
           closed = o.closed;
+          first_pages = o.first_pages;
           last_pages = xs ++ marks ∷ [];
+          splits = ap (λ (ps : List (List Mark)). ps ++ marks ∷ []) o.splits ∙ append_assoc o.first_pages xs (marks ∷ []);
+          many = o.many;
           lengths =
               ap (λ ns. slice_set ns (length ns - 1) (last_length p.lengths + 1)) o.lengths
               ∙ (set_last o.closed (length xs) (last_length p.lengths + 1) ∙ ap (λ n. o.closed ++ n ∷ []) (sym more));
@@ -152,10 +164,20 @@ page_begun set p pages usage new marks room planned priced new_priced taken new_
         let more = heavy.2 in
         inr (omega (arith, is, more))
 
+    all_closed : (o : IsOpen set p pages) → sum (o.closed ++ length o.last_pages ∷ []) ≡ length pages
+    all_closed o =
+        let all : length pages ≡ length o.first_pages + length o.last_pages = ap (λ (ps : List (List Mark)). length ps) o.splits ∙ length-append o.first_pages o.last_pages in
+        let both : sum (o.closed ++ length o.last_pages ∷ []) ≡ sum o.closed + length o.last_pages = sum_more o.closed (length o.last_pages) in
+        let many = o.many in
+        omega (arith, all, both, many)
+
     by : IsFresh p pages ⊎ IsOpen set p pages → IsFresh (begun p new) (pages ++ marks ∷ []) ⊎ IsOpen set (begun p new) (pages ++ marks ∷ [])
     by (inl fresh) = inr (record {
       closed = [];
+      first_pages = [];
       last_pages = marks ∷ [];
+      splits = ap (λ (ps : List (List Mark)). ps ++ marks ∷ []) fresh.none;
+      many = refl;
       lengths = ap (λ ns. ns ++ 1 ∷ []) fresh.lengths;
       some = omega arith;
       light = alone;
@@ -165,7 +187,10 @@ page_begun set p pages usage new marks room planned priced new_priced taken new_
     })
     by (inr o) = inr (record {
       closed = o.closed ++ length o.last_pages ∷ [];
+      first_pages = pages;
       last_pages = marks ∷ [];
+      splits = refl;
+      many = all_closed o;
       lengths = ap (λ ns. ns ++ 1 ∷ []) o.lengths;
       some = omega arith;
       light = alone;
@@ -193,3 +218,17 @@ finished set p pages planned = by planned.so_far
         o.lengths
         ∙ (ap (λ ns. o.closed ++ ns) (sym (ap (sections set p.budget p.most) (append-nil o.last_pages) ∙ last_parts set p.budget p.most o.last_pages o.some o.few o.light))
         ∙ (sym (o.closing []) ∙ ap (sections set p.budget p.most) (append-nil pages)))
+
+-- the last section's pages stand behind those of the closed ones
+pub last_used : (set : FontSet) (p : Planning) (pages : List (List Mark)) → IsPlanned set p pages → UsesLast p.last p.lengths pages
+last_used set p pages planned some = by planned.so_far
+  where
+    by : IsFresh p pages ⊎ IsOpen set p pages → HasTaken p.last (all_marks (pages_of_last p.lengths pages))
+    by (inl fresh) = let none : length p.lengths ≡ 0 = ap (λ (ns : List ℕ). length ns) fresh.lengths in absurd (omega (arith, none, some))
+    by (inr o) =
+        let front : take (length p.lengths - 1) p.lengths ≡ o.closed = ap (λ (ns : List ℕ). take (length ns - 1) ns) o.lengths ∙ front_of o.closed (length o.last_pages) in
+        let behind : pages_of_last p.lengths pages ≡ o.last_pages =
+        ap (λ (ns : List ℕ). drop (sum ns) pages) front
+        ∙ (ap (λ (n : ℕ). drop n pages) o.many
+        ∙ (ap (drop (length o.first_pages)) o.splits ∙ drop-append_seam o.first_pages o.last_pages)) in
+        subst (λ (ps : List (List Mark)). HasTaken p.last (all_marks ps)) (sym behind) o.taken

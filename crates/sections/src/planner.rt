@@ -5,7 +5,7 @@ ghost use Rattle.positions.specs.Mark.{Mark};
 ghost use Rattle.sections.specs.Used.{is_used, HasTaken};
 ghost use Rattle.sections.specs.Cost.{cost, IsPriced};
 ghost use Rattle.sections.specs.Sections.{is_few, sections};
-ghost use Rattle.sections.specs.Planned.{Planning, IsPlanned, pages_given};
+ghost use Rattle.sections.specs.Planned.{Planning, IsPlanned, UsesLast, pages_given};
 ghost use Rattle.sections.specs.Growing.{IsTaken, IsRefused, last_length};
 ghost use Rattle.sections.specs.PlanFaults.{PlanFaultIs};
 
@@ -160,5 +160,14 @@ impl Planner {
         ensures plan { (set : FontSet) (pages : List (List Mark)) → IsPlanned set self pages → result ≡ sections set self.budget self.most pages }
     {
         Plan(self.lengths)
+    }
+
+    /// The numbers of pages of the sections, and what the pages of the last section use.
+    pub fn into_parts(self) -> (Plan, Usage)
+        ensures plan { (set : FontSet) (pages : List (List Mark)) → IsPlanned set self pages → result.0 ≡ sections set self.budget self.most pages }
+        ensures last { (set : FontSet) (pages : List (List Mark)) → IsPlanned set self pages → UsesLast result.1 result.0 pages }
+        ensures usage { result.1 ≡ self.last }
+    {
+        (Plan(self.lengths), self.last)
     }
 }

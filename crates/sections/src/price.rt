@@ -2,6 +2,7 @@
 ghost use Rattle.std.specs.Prelude.{◌≡◌, ◌<◌, ◌≤◌, ◌+◌, ◌*◌, ◌/◌, ◌%◌, ℕ, length, slice_index_or, IfOk};
 ghost use Rattle.sections.specs.Cost.{has_black, rows_cost, glyph_price};
 
+use bit_lanes::is_blank;
 use dv_base::FontId;
 use font_set::Fonts;
 use std::alloc::{AllocError, Global};
@@ -16,7 +17,7 @@ const GLYPH: u32 = 160;
 fn has_black(rows: &[u8]) -> bool
     ensures { result ≡ has_black rows.now }
 {
-    rows.iter().any(|byte| *byte != 0)
+    !is_blank(rows)
 }
 
 /// What the rows of a bitmap cost.

@@ -76,7 +76,38 @@ fn take(usage: &mut Usage, fonts: &Fonts, id: FontId, codes: &str) -> Result<(),
     Ok(())
 }
 
-/// Plans pages of these characters.
+/// Plans pages of these characters; or tells of the page that can't be planned.
+fn planned(
+    alloc: Global,
+    fonts: &Fonts,
+    id: FontId,
+    planner: Planner,
+    pages: &str,
+) -> Result<Result<Planner, String>, Fail>
+    requires given { id < length fonts.now.fonts }
+    requires same_fonts { IsPriced fonts.now planner.last }
+    requires none { pages_given planner ≡ 0 }
+    ensures { IfOk result (λ r. IfOk r (λ planner. IsPriced fonts.now planner.last)) }
+{
+    let mut planner = planner;
+    let mut usage = Usage::new(alloc, fonts)?;
+    let mut number = 0u32;
+    for page in pages.split(' ') {
+        number = number.checked_add(1).ok_or("too many")?;
+        take(&mut usage, fonts, id, page)?;
+        match planner.page(number, &usage, fonts) {
+            Ok(()) => {}
+            Err(PlanFault::PageTooBig { page, need, have }) => {
+                let text = format!(in alloc; "page {page} needs {need} of {have}")?;
+                return Ok(Err(text));
+            }
+            Err(PlanFault::OutOfMemory) => return Err("memory".into()),
+        }
+    }
+    Ok(Ok(planner))
+}
+
+/// How many pages each section has, where the pages are of these characters.
 fn plan(
     alloc: Global,
     fonts: &Fonts,
@@ -88,21 +119,10 @@ fn plan(
     requires same_fonts { IsPriced fonts.now planner.last }
     requires none { pages_given planner ≡ 0 }
 {
-    let mut planner = planner;
-    let mut usage = Usage::new(alloc, fonts)?;
-    let mut number = 0u32;
-    for page in pages.split(' ') {
-        number = number.checked_add(1).ok_or("too many")?;
-        take(&mut usage, fonts, id, page)?;
-        match planner.page(number, &usage, fonts) {
-            Ok(()) => {}
-            Err(PlanFault::PageTooBig { page, need, have }) => {
-                return Ok(format!(in alloc; "page {page} needs {need} of {have}")?);
-            }
-            Err(PlanFault::OutOfMemory) => return Err("memory".into()),
-        }
+    match planned(alloc, fonts, id, planner, pages)? {
+        Ok(planner) => Ok(format!(in alloc; "{:?}", planner.finish().as_slice())?),
+        Err(text) => Ok(text),
     }
-    Ok(format!(in alloc; "{:?}", planner.finish().as_slice())?)
 }
 
 /// In each line the budget, how many pages a section may have (0: any number), the characters of the pages, and the answer.
@@ -152,6 +172,51 @@ fn has(usage: &Usage, id: FontId) -> [bool; 4]
         usage.has(id, 67),
         usage.has(id, 68),
     ]
+}
+
+/// In each line the budget, the characters of the pages, how many pages each section has, and which of the codes 65 to 68 the last one
+/// uses.
+const LASTS: &str = "3046/AB AC/[2] [true, true, true, false]
+3045/AB AC/[1, 1] [true, false, true, false]
+2722/A B B/[1, 2] [false, true, false, false]
+2721/ D/[2] [false, false, false, true]";
+
+/// How many pages each section has and what the last one uses, where the pages are of these characters.
+fn last(
+    alloc: Global,
+    fonts: &Fonts,
+    id: FontId,
+    planner: Planner,
+    pages: &str,
+) -> Result<String, Fail>
+    requires given { id < length fonts.now.fonts }
+    requires same_fonts { IsPriced fonts.now planner.last }
+    requires none { pages_given planner ≡ 0 }
+{
+    match planned(alloc, fonts, id, planner, pages)? {
+        Ok(planner) => {
+            let (plan, usage) = planner.into_parts();
+            Ok(format!(in alloc; "{:?} {:?}", plan.as_slice(), has(&usage, id))?)
+        }
+        Err(text) => Ok(text),
+    }
+}
+
+#[test]
+fn lasts(rt: HostRuntime) -> Result<(), Fail> {
+    let (fonts, id) = loaded(rt.alloc())?;
+    for line in LASTS.lines() {
+        let mut fields = line.splitn(3, '/');
+        let budget: u32 = fields.next().ok_or("a budget")?.parse()?;
+        let planner = Planner::new(rt.alloc(), &fonts, budget, None)?;
+        let pages = fields.next().ok_or("pages")?;
+        assert_eq!(rt;
+            last(rt.alloc(), &fonts, id, planner, pages)?.as_str(),
+            fields.next().ok_or("an answer")?,
+            "{line}"
+        );
+    }
+    Ok(())
 }
 
 /// What a usage tells that has taken these characters.

@@ -1,7 +1,7 @@
 use Rattle.std.proofs.Common.{◌≡◌}
 use Rattle.sections.specs.Cost.{IsPriced}
 use Rattle.sections.specs.Planned.{pages_given}
-use Rattle.sections.proofs.tests.plan.Given as goal
+use Rattle.sections.proofs.tests.planned.Given as goal
 
 abbrev pub invariant-loop-page : goal.invariant-loop-page
 invariant-loop-page l =
