@@ -22,6 +22,15 @@ pub near-stays : (e t n : ℤ) → pos 0 ≤ℤ e → unsigned_abs (n -ℤ t) �
 unfolding near
 near-stays e t n some close = omega (arith, ints, clamps)
 
+-- what is one too far comes one nearer
+pub near-less : (e t n : ℤ) → pos 0 ≤ℤ e → unsigned_abs e < unsigned_abs (n -ℤ t) → unsigned_abs (n -ℤ pos 1 -ℤ t) ≤ unsigned_abs e → near e t n ≡ n -ℤ pos 1
+unfolding near
+near-less e t n some far close = omega (arith, ints, clamps)
+
+pub near-more : (e t n : ℤ) → pos 0 ≤ℤ e → unsigned_abs e < unsigned_abs (n -ℤ t) → unsigned_abs (n +ℤ pos 1 -ℤ t) ≤ unsigned_abs e → near e t n ≡ n +ℤ pos 1
+unfolding near
+near-more e t n some far close = omega (arith, ints, clamps)
+
 pub near-bound : (f : Fraction) → IsFine f → (e place n : ℤ) → pos 0 ≤ℤ e → e ≤ℤ pos 1000 → unsigned_abs place < 2 ^ 31 → unsigned_abs (n -ℤ rounded f place) ≤ unsigned_abs e → unsigned_abs n < 2 ^ 32
 near-bound f fine e place n some few small close = omega (arith, ints, rounded-bound f fine place)
 

@@ -1,5 +1,6 @@
 //! The current place of a page.
-ghost use Rattle.std.specs.Prelude.{◌≡◌, ◌^◌, ◌<◌, ◌≤◌, pos, ◌+ℤ◌, ◌≤ℤ◌, unsigned_abs, Some, None, OnOk, OnErr, IfOk};
+ghost use Rattle.std.specs.Prelude.{◌≡◌, ◌^◌, ◌<◌, ◌≤◌, pos, ◌+ℤ◌, ◌-ℤ◌, ◌≤ℤ◌, unsigned_abs, Some, None, OnOk, OnErr, IfOk};
+ghost use Rattle.dv_base.specs.Rounding.{rounded};
 ghost use Rattle.positions.specs.Place.{origin};
 ghost use Rattle.positions.specs.Drift.{IsDrift, IsSpace, near, pixels_behind, pixels_after, is_large_across, is_large_down, advanced, right, down};
 
@@ -61,6 +62,27 @@ fn near(drift: i64, exact: i64, pixels: i64) -> i64
     pixels.clamp(exact - drift, exact + drift)
 }
 
+/// `behind`, which is more than `drift` from the exact pixels of `place`, brought to at most `drift` from them.
+// Behind characters that are rounded up, or down, it is one pixel too far: this is told without a division too.
+fn brought_near(conv: &Conv, drift: i64, place: i64, behind: i64) -> i64
+    requires drift { IsDrift drift }
+    requires place { unsigned_abs place < 2 ^ 31 }
+    requires behind { unsigned_abs behind < 2 ^ 41 }
+    requires far { unsigned_abs drift < unsigned_abs (behind -ℤ rounded conv.now place) }
+    ensures value { result ≡ near drift (rounded conv.now place) behind }
+    ensures bound { unsigned_abs result < 2 ^ 32 }
+{
+    let less = behind - 1;
+    let more = behind + 1;
+    if conv.is_near(place, less, drift) {
+        less
+    } else if conv.is_near(place, more, drift) {
+        more
+    } else {
+        near(drift, conv.round(place), behind)
+    }
+}
+
 /// The pixels behind a character or a rule: those before it and its `width`, at most `drift` from the exact ones of `place`.
 // Behind almost all characters they are near enough, which is told without a division.
 #[inline(always)]
@@ -76,7 +98,7 @@ fn pixels_behind(conv: &Conv, drift: i64, place: i64, pixels: i64, width: i64) -
     if conv.is_near(place, behind, drift) {
         behind
     } else {
-        near(drift, conv.round(place), behind)
+        brought_near(conv, drift, place, behind)
     }
 }
 
@@ -131,6 +153,7 @@ impl Pos {
     }
 
     /// Moves past a character or a rule that is `width` units and `pixels` pixels wide; hh stays within `drift` of the exact pixel.
+    #[inline(always)]
     pub fn advance(
         &mut self,
         conv: &Conv,

@@ -1,9 +1,9 @@
 -- What is near enough stays; else it is brought near the exact pixel.
-use Rattle.std.proofs.Common.{◌≡◌, ◌+ℤ◌, ◌-ℤ◌, ◌≤◌, ◌∙◌, ap, sym, FitsSigned, w64, rules, to_z, of_z}
+use Rattle.std.proofs.Common.{◌≡◌, ◌+ℤ◌, ◌-ℤ◌, ◌≤◌, ◌∙◌, sym, FitsSigned, w64, rules, to_z, of_z}
 use Rattle.std.specs.Prelude.{unsigned_abs}
 use Rattle.std.proofs.lemmas.Int.{to_z-of_z}
 use Rattle.dv_base.specs.Rounding.{rounded}
-use Rattle.positions.specs.Drift.{near, pixels_behind}
+use Rattle.positions.specs.Drift.{pixels_behind}
 use Rattle.positions.proofs.Moves.{near-stays, near-bound}
 use Rattle.positions.proofs.pos.pixels_behind.Goals as goal
 
@@ -41,8 +41,6 @@ returns-else-is_near-clause-value c =
     let pixels : FitsSigned w64 c.args.pixels = search rules in
     let width : FitsSigned w64 c.args.width = search rules in
     let sum : FitsSigned w64 (c.args.pixels +ℤ c.args.width) = search rules in
-    let exact : FitsSigned w64 c.round.result = search rules in
-    let result : FitsSigned w64 c.near.result = search rules in
-    let rounding = simp to_z-of_z at c.round.ensures.value in
-    let drifting = simp to_z-of_z at c.near.ensures.value in
-    to_z-of_z w64 c.near.result result ∙ drifting ∙ ap (λ r. near c.args.drift r (c.args.pixels +ℤ c.args.width)) rounding
+    let result : FitsSigned w64 c.brought_near.result = search rules in
+    let drifting = simp to_z-of_z at c.brought_near.ensures.value in
+    to_z-of_z w64 c.brought_near.result result ∙ drifting
