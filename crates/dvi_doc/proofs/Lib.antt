@@ -5,6 +5,7 @@ pub mod OneFile
 pub mod Trailers
 pub mod Refuted
 pub mod Further
+pub mod Passing
 pub mod Gathered
 pub mod Defined
 pub mod Numbering

@@ -1,11 +1,12 @@
 -- What the steps of reading a document find: the pages, the postamble and both together. No public clause cites this module.
-use Rattle.std.specs.Prelude.{◌≡◌, ◌≤◌, ◌+◌, ℕ, ℤ, pos, negsuc, Option, Some, None, List, ◌++◌, map, slice_range}
+use Rattle.std.specs.Prelude.{◌≡◌, ◌≤◌, ◌+◌, ℕ, zero, suc, ℤ, pos, negsuc, Option, Some, None, List, [], ◌++◌, map, slice_range}
+use Rattle.dvi_ops.specs.Command.{Command}
 use Rattle.dvi_ops.specs.Command.Command.{Eop, Post, PostPost}
 use Rattle.dvi_ops.specs.View.{def_view, head_view, tail_view}
 use Rattle.dvi_ops.specs.declared.cmd.Def.{Def}
 use Rattle.dvi_ops.specs.Placed.{Placed, Lexes}
-use Rattle.dvi_doc.specs.Document.{Item, File, Document, between, last_bop, pages_of, definitions_of, definitions_before, document_of}
-use Rattle.dvi_doc.specs.Grammar.{AllInner, AllFillers, AllItems, IsFile}
+use Rattle.dvi_doc.specs.Document.{Item, File, Document, between, last_bop, pages_of, put_definition, definitions_of, definitions_before, document_of}
+use Rattle.dvi_doc.specs.Grammar.{IsInner, AllInner, AllFillers, AllItems, IsFile}
 use Rattle.dvi_doc.specs.Order.{Reaches, reading, SpelledTo}
 use Rattle.dvi_doc.specs.Order.Part.{Between, Inside, Behind}
 use Rattle.dvi_doc.specs.View.{outline, page_view}
@@ -22,6 +23,12 @@ EndsAt bytes ends = TrailerAt bytes ends × (back : ℕ) × SpelledTo bytes ends
 abbrev pub last_of : Option ℕ → ℤ
 last_of None = negsuc 0
 last_of (Some place) = pos place
+
+-- So many commands stand from start to at: a page may hold each of them, and none is a definition.
+abbrev pub PassedTo : ℕ → List ℕ → ℕ → ℕ → Type 0
+PassedTo zero bytes start at = at ≡ start
+PassedTo (suc n) bytes start at =
+    (mid : ℕ) × PassedTo n bytes start mid × (c : Command) × SpelledTo bytes mid at c × IsInner c × (put_definition c [] ≡ [])
 
 -- From start on stand the commands of a page and, at eop, its end; their definitions were put behind old.
 abbrev pub FoundPage : List ℕ → ℕ → ℕ → ℕ → ℕ → List Def → List Def → Type 0

@@ -8,7 +8,7 @@ ghost use Rattle.dvi_doc.specs.Faults.{FaultIn};
 ghost use Rattle.dvi_doc.specs.Steps.{EndsAt, FoundPage};
 
 use crate::fault::DocFault;
-use crate::step::{pass_command, read_command};
+use crate::step::{pass_commands, read_command};
 use dvi_ops::{Cmd, Def};
 
 /// A page by its places: of its bop, of the first command behind that and of its eop. `counts` are the ten counts of its bop.
@@ -48,24 +48,20 @@ pub fn read_page<'a>(
     ensures found { IfOk result (λ r. FoundPage bytes.now start r.0 r.1 ends earlier.old.items earlier.new.items) }
     ensures fault { IfErr result (FaultIn bytes.now) }
 {
-    let mut at = start;
+    let mut at = pass_commands(bytes, start, ends);
     while at < ends {
-        if let Some(end) = pass_command(bytes, at, ends) {
-            at = end;
-            continue;
-        }
         let (cmd, end) = read_command(bytes, at, ends)?;
         match cmd {
             Cmd::Eop => return Ok((at, end)),
             Cmd::FntDef(def) => {
                 earlier.push(def)?;
-                at = end;
+                at = pass_commands(bytes, end, ends);
             }
             other => {
                 if !is_inner(&other) {
                     return Err(DocFault::BadOrder { at: at as u32 });
                 }
-                at = end;
+                at = pass_commands(bytes, end, ends);
             }
         }
     }

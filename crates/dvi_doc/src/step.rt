@@ -1,5 +1,5 @@
 //! One command further in a file whose end is known.
-ghost use Rattle.std.specs.Prelude.{◌≡◌, ◌≤◌, ◌<◌, ◌^◌, [], length, IfOk, IfErr, IfSome};
+ghost use Rattle.std.specs.Prelude.{◌≡◌, ◌≤◌, ◌<◌, ◌^◌, ℕ, [], length, IfOk, IfErr, IfSome};
 ghost use Rattle.dvi_ops.specs.Command.{Command};
 ghost use Rattle.dvi_ops.specs.Command.Command.{FntDef};
 ghost use Rattle.dvi_doc.specs.Document.{put_definition};
@@ -7,7 +7,7 @@ ghost use Rattle.dvi_doc.specs.Grammar.{IsInner};
 ghost use Rattle.dvi_ops.specs.View.{view, def_view};
 ghost use Rattle.dvi_doc.specs.Order.{Reading, Reaches, SpelledTo};
 ghost use Rattle.dvi_doc.specs.Faults.{FaultIn};
-ghost use Rattle.dvi_doc.specs.Steps.{EndsAt};
+ghost use Rattle.dvi_doc.specs.Steps.{EndsAt, PassedTo};
 
 use crate::fault::DocFault;
 use dvi_ops::{Cmd, Def, OpFault, definition_at, next_cmd, pass};
@@ -36,13 +36,33 @@ pub fn read_command(bytes: &[u8], at: usize, ends: usize) -> Result<(Cmd<'_>, us
 /// The place behind the command at a place, where it is one that a page may hold, without a text; `None` where it isn't, or isn't
 /// whole before the trailer's `post_post`.
 #[inline(always)]
-pub fn pass_command(bytes: &[u8], at: usize, ends: usize) -> Option<usize>
+fn pass_command(bytes: &[u8], at: usize, ends: usize) -> Option<usize>
     requires before { at < ends }
     requires inside { ends ≤ length bytes.now }
     ensures { IfSome result (λ end. (end ≤ ends) × (c : Command) × SpelledTo bytes.now at end c × IsInner c × (put_definition c [] ≡ [])) }
 {
     let end = pass(bytes, at)?;
     if end <= ends { Some(end) } else { None }
+}
+
+/// The place behind the commands from a place on that a page may hold, each without a text and whole before the trailer's `post_post`.
+// A loop of its own, so that its state stays in registers.
+#[inline(never)]
+pub fn pass_commands(bytes: &[u8], start: usize, ends: usize) -> usize
+    requires before { start ≤ ends }
+    requires inside { ends ≤ length bytes.now }
+    ensures passed { (n : ℕ) × PassedTo n bytes.now start result }
+    ensures further { start ≤ result }
+    ensures within { result ≤ ends }
+{
+    let mut at = start;
+    while at < ends {
+        match pass_command(bytes, at, ends) {
+            Some(end) => at = end,
+            None => return at,
+        }
+    }
+    at
 }
 
 /// The font definition at a place, and the place behind it, where one stands there that ends before the trailer's `post_post`; `None`
