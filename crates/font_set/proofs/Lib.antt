@@ -21,6 +21,7 @@ pub mod Faulting
 pub mod Steps
 pub mod States
 pub mod Turning
+pub mod Skimming
 pub mod Defining
 pub mod Showing
 pub mod Paging

@@ -23,4 +23,5 @@ pub mod Laws
 pub mod Progress
 pub mod Found
 pub mod Asking
+pub mod Skim
 pub mod Alike

@@ -82,6 +82,7 @@ impl Agenda {
     }
 
     /// Whether a character was met.
+    #[inline(always)]
     pub fn has_met(&self, font: FontId, code: u8) -> bool
         ensures { result ≡ slice_index_or self.now.met (font * 256 + code) false }
     {

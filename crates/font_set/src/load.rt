@@ -27,7 +27,7 @@ use crate::fonts::Fonts;
 use crate::turn::{Does, Sheet, Turn};
 use dv_base::{FontId, Shelf};
 use dvi_doc::{Doc, FontKey};
-use dvi_ops::one_reading;
+use dvi_ops::{one_reading, one_spelling};
 use pk_raster::{Look, Pk};
 use std::alloc::AllocError;
 
@@ -252,7 +252,7 @@ impl Fonts {
     }
 
     /// Runs the command at the last open place.
-    fn step<S: Shelf>(
+    fn run_command<S: Shelf>(
         &mut self,
         shelf: &mut S,
         sheet: &Sheet<'_>,
@@ -273,6 +273,30 @@ impl Fonts {
             Does::Selects(key) => self.select(sheet, place, &turn, &key, agenda),
             Does::Sets(z) => self.set(shelf, sheet, place, &turn, z, agenda),
         }
+    }
+
+    /// Goes on from the last open place: passes over what asks nothing of fonts, and runs the command behind it.
+    fn step<S: Shelf>(
+        &mut self,
+        shelf: &mut S,
+        sheet: &Sheet<'_>,
+        place: &Place,
+        agenda: &mut Agenda,
+    ) -> Result<(), LoadFault>
+        requires inside { place.now.at < place.now.end }
+        requires found { (old : FontSet) × FoundAt sheet.now old self.old agenda.old.met (place.now ∷ agenda.old.places) }
+        ensures steps { OnOk result (Steps sheet.now place.now self.old self.new agenda.old agenda.new) }
+        ensures gains { GainsFor (S.told shelf.old).held self.old self.new sheet.now.page }
+        ensures fault { IfErr result (LoadFaultIs self.new sheet.now.page (S.told shelf.old) (S.told shelf.new)) }
+        ensures keeps { Keeps (S.told shelf.old) (S.told shelf.new) }
+    {
+        one_spelling();
+        let at = self.skimmed(sheet, place, agenda);
+        let ahead = moved(place, at, place.font);
+        if ahead.at >= ahead.end {
+            return Ok(());
+        }
+        self.run_command(shelf, sheet, &ahead, agenda)
     }
 
     /// Goes over all frames of a page.
