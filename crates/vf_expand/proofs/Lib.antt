@@ -20,3 +20,5 @@ pub mod Paging
 pub mod Faultless
 pub mod Alike
 pub mod AlikeMarks
+pub mod OnGrids
+pub mod Painting

@@ -15,3 +15,5 @@ pub mod Page
 pub mod Faultless
 pub mod Given
 pub mod Alike
+pub mod Exact
+pub mod Rules

@@ -17,14 +17,17 @@ mod glyphs;
 mod grid;
 mod home;
 mod laws;
+mod mark_laws;
 mod paint;
 mod plain;
 mod run;
 mod shift;
+mod short;
 mod walker;
 
 pub use fault::WalkFault;
 pub use laws::{alike_pages, expanding, marked_pages, pages_by_place, trees};
+pub use mark_laws::{exact_pages, painted_rules};
 pub use walker::Walker;
 
 #[cfg(test)]

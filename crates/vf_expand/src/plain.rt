@@ -55,9 +55,10 @@ fn set_rule<C: Canvas>(
     put_rule(&frame.grid, &here, height, width, canvas)
 }
 
-/// Does one command that is neither push nor pop, selects no font and sets no character.
+/// Does such a command that may move or give a mark.
+#[inline(never)]
 #[tactic(auto, unfolding(crate::specs::Marks::step))]
-pub fn plain<C: Canvas>(
+fn moved_or_marked<C: Canvas>(
     frame: &Frame<'_>,
     cmd: &Cmd<'_>,
     pos: &mut Pos,
@@ -85,5 +86,32 @@ pub fn plain<C: Canvas>(
         Cmd::Xxx(bytes) => put_special(pos, bytes, canvas),
         Cmd::Nop | Cmd::FntDef(_) => Ok(()),
         other => Ok(shift(frame, other, pos, font)?),
+    }
+}
+
+/// Does one command that is neither push nor pop, selects no font and sets no character.
+// A nop is done where the caller stands.
+#[inline(always)]
+#[tactic(auto, unfolding(crate::specs::Marks::step))]
+pub fn plain<C: Canvas>(
+    frame: &Frame<'_>,
+    cmd: &Cmd<'_>,
+    pos: &mut Pos,
+    font: &Option<FontId>,
+    canvas: &mut C,
+) -> Result<(), Halt<C::Fault>>
+    requires given { IsGiven frame.now.fonts.now frame.now.home }
+    requires font { IsFont frame.now.fonts.now font.now }
+    requires plain { IsPlain (view cmd.now) }
+    requires short { special_size (view cmd.now) < 2 ^ 31 }
+    requires can { CanTake C.can Nothing canvas.old (marks_alone (step (bare_in frame.now) (view cmd.now) (record { place = pos.old; font = font.now }))) }
+    ensures ok { OnOk result (Follows (Took Nothing C.takes) canvas.old canvas.new (record { place = pos.new; font = font.now }) (step (bare_in frame.now) (view cmd.now) (record { place = pos.old; font = font.now }))) }
+    ensures same { OnOk result (SameCondition C.can canvas.old canvas.new) }
+    ensures stops { IfErr result (Halts C.refuses canvas.old canvas.new (marks_alone (step (bare_in frame.now) (view cmd.now) (record { place = pos.old; font = font.now })))) }
+    ensures cause { IfErr result (IsHaltCause (bare_in frame.now) (view cmd.now) (record { place = pos.old; font = font.now })) }
+{
+    match cmd {
+        Cmd::Nop => Ok(()),
+        other => moved_or_marked(frame, other, pos, font, canvas),
     }
 }

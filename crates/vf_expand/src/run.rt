@@ -26,6 +26,7 @@ use crate::grid::Wide;
 use crate::home::{Frame, Home, inner};
 use crate::paint::put_glyph;
 use crate::plain::plain;
+use crate::short::short_cmd;
 use dv_base::{FontId, Spot};
 use dvi_ops::{Cmd, next_cmd, one_reading, one_spelling};
 use positions::{Canvas, Passed, Pos};
@@ -86,7 +87,7 @@ impl Run {
         requires base { frame.now.base ≡ vec_len self.old.saved }
         requires short { first_of frame.now.home + length bytes.now < 2 ^ 31 }
         requires ready { (cs : List Placed) × Lexes (first_of frame.now.home) bytes.now cs × AllInner cs × IsReady C.can frame.now canvas.old cs start }
-        requires met { AreMet frame.now.grid frame.now.fonts.now self.old.glyphs.met.items }
+        requires met { AreMet frame.now.grid frame.now.fonts.now self.old.glyphs.page self.old.glyphs.met.items }
         ensures ok { (cs : List Placed) → Lexes (first_of frame.now.home) bytes.now cs → OnOk result (TookPage (Took (HasGlyph frame.now.grid frame.now.fonts.now) C.takes) canvas.old canvas.new (marks_in frame.now cs start)) }
         ensures stops { (cs : List Placed) → Lexes (first_of frame.now.home) bytes.now cs → IfErr result (Stops C.takes C.refuses canvas.old canvas.new (marks_alone (marks_in frame.now cs start))) }
         ensures cause { (cs : List Placed) → Lexes (first_of frame.now.home) bytes.now cs → IfErr result (IsCause frame.now.grid frame.now.fonts.now frame.now.nest (program_in frame.now cs) start (λ at. spot_of frame.now.home at) (first_of frame.now.home + length bytes.now) frame.now.base) }
@@ -94,7 +95,7 @@ impl Run {
         ensures many { (cs : List Placed) → Lexes (first_of frame.now.home) bytes.now cs → IfErr result (IsMany (self.old.steps + count_in frame.now cs)) }
         ensures room { (cs : List Placed) → Lexes (first_of frame.now.home) bytes.now cs → OnOk result (IsShallow frame.now.grid frame.now.fonts.now frame.now.nest (program_in frame.now cs) start frame.now.base) }
         ensures stack { OnOk result (self.new.saved.items ≡ self.old.saved.items) }
-        ensures met { OnOk result (AreMet frame.now.grid frame.now.fonts.now self.new.glyphs.met.items) }
+        ensures met { OnOk result (AreMet frame.now.grid frame.now.fonts.now self.new.glyphs.page self.new.glyphs.met.items) }
         ensures same { OnOk result (SameCondition C.can canvas.old canvas.new) }
     {
         one_spelling();
@@ -102,6 +103,12 @@ impl Run {
         let mut font = frame.first();
         let mut at = 0;
         while at < bytes.len() {
+            if let Some(cmd) = short_cmd(bytes, at) {
+                let spot = frame.home.spot(at);
+                at += 1;
+                self.turn(frame, &cmd, spot, &mut pos, &mut font, canvas)?;
+                continue;
+            }
             match next_cmd(bytes, at) {
                 Ok((cmd, end)) => {
                     let spot = frame.home.spot(at);
@@ -137,7 +144,7 @@ impl Run {
         requires inner { IsInner (view cmd.now) }
         requires short { special_size (view cmd.now) < 2 ^ 31 }
         requires ready { IsTurnReady C.can frame.now canvas.old (view cmd.now) font.old (turn_marks (turned (meaning_in frame.now) (view cmd.now) (open_at frame.now.base self.old.saved.items) (record { place = pos.old; font = font.old }))) }
-        requires met { AreMet frame.now.grid frame.now.fonts.now self.old.glyphs.met.items }
+        requires met { AreMet frame.now.grid frame.now.fonts.now self.old.glyphs.page self.old.glyphs.met.items }
         ensures ok { OnOk result (FollowsTurn (Took (HasGlyph frame.now.grid frame.now.fonts.now) C.takes) canvas.old canvas.new (open_at frame.now.base self.new.saved.items) (record { place = pos.new; font = font.new }) (turned (meaning_in frame.now) (view cmd.now) (open_at frame.now.base self.old.saved.items) (record { place = pos.old; font = font.old }))) }
         ensures stops { IfErr result (Stops C.takes C.refuses canvas.old canvas.new (turn_marks (turned (meaning_in frame.now) (view cmd.now) (open_at frame.now.base self.old.saved.items) (record { place = pos.old; font = font.old })))) }
         ensures cause { IfErr result (IsTurnCause (meaning_in frame.now) spot frame.now.base (inside frame.now.grid frame.now.fonts.now frame.now.nest (frame.now.base + length (open_at frame.now.base self.old.saved.items))) (view cmd.now) (open_at frame.now.base self.old.saved.items) (record { place = pos.old; font = font.old })) }
@@ -147,7 +154,7 @@ impl Run {
         ensures below { OnOk result (take frame.now.base self.new.saved.items ≡ take frame.now.base self.old.saved.items) }
         ensures base { OnOk result (frame.now.base ≤ vec_len self.new.saved) }
         ensures behind { OnOk result (font.new ≡ font_behind (select frame.now.fonts.now (scope_in frame.now)) font.old (view cmd.now)) }
-        ensures met { OnOk result (AreMet frame.now.grid frame.now.fonts.now self.new.glyphs.met.items) }
+        ensures met { OnOk result (AreMet frame.now.grid frame.now.fonts.now self.new.glyphs.page self.new.glyphs.met.items) }
         ensures same { OnOk result (SameCondition C.can canvas.old canvas.new) }
     {
         if self.steps >= MOST_STEPS {
@@ -216,7 +223,7 @@ impl Run {
         canvas: &mut C,
     ) -> Result<Wide, WalkFault<C::Fault>>
         requires ready { IsCharReady C.can frame.now canvas.old (Some id) (pos code) (char_marks (chars frame.now.grid frame.now.fonts.now frame.now.nest (Some id) (pos code) here.now)) }
-        requires met { AreMet frame.now.grid frame.now.fonts.now self.old.glyphs.met.items }
+        requires met { AreMet frame.now.grid frame.now.fonts.now self.old.glyphs.page self.old.glyphs.met.items }
         ensures ok { IfOk result (λ wide. TookChar (Took (HasGlyph frame.now.grid frame.now.fonts.now) C.takes) canvas.old canvas.new wide.width (chars frame.now.grid frame.now.fonts.now frame.now.nest (Some id) (pos code) here.now)) }
         ensures wide { IfOk result (λ wide. IsWide frame.now.grid wide) }
         ensures stops { IfErr result (Stops C.takes C.refuses canvas.old canvas.new (char_marks (chars frame.now.grid frame.now.fonts.now frame.now.nest (Some id) (pos code) here.now))) }
@@ -225,7 +232,7 @@ impl Run {
         ensures many { IfErr result (IsMany (self.old.steps + runs frame.now.fonts.now frame.now.nest (Some id) (pos code))) }
         ensures room { OnOk result (PacketFinds frame.now.grid frame.now.fonts.now frame.now.nest (vec_len self.old.saved) (Some id) (pos code) here.now) }
         ensures stack { OnOk result (self.new.saved.items ≡ self.old.saved.items) }
-        ensures met { OnOk result (AreMet frame.now.grid frame.now.fonts.now self.new.glyphs.met.items) }
+        ensures met { OnOk result (AreMet frame.now.grid frame.now.fonts.now self.new.glyphs.page self.new.glyphs.met.items) }
         ensures same { OnOk result (SameCondition C.can canvas.old canvas.new) }
     {
         one_reading();
