@@ -1,12 +1,12 @@
 -- That a copy is a document.
-use Rattle.std.proofs.Common.{rules, ◌≡◌, ◌<◌, ◌≤◌, ◌+◌, ◌-◌, ◌%◌, ◌^◌, ◌⊎◌, ℕ, ℤ, pos, negsuc, zero, suc, Bool, true, false, List, [], ◌∷◌, ◌++◌, length, map, refl, sym, ap, subst, ◌∙◌, arith, inl, inr, append_assoc, length-append}
+use Rattle.std.proofs.Common.{◌≡◌, ◌≤◌, ◌+◌, ◌-◌, ◌%◌, ◌⊎◌, ℕ, ℤ, pos, negsuc, zero, suc, Bool, true, false, List, [], ◌∷◌, ◌++◌, length, refl, sym, ap, subst, ◌∙◌, arith, inl, inr, append_assoc, length-append}
 use Rattle.std.specs.Prelude.{replicate, if◌then◌else◌, ◌+ℤ◌, ◌-ℤ◌, unsigned_abs}
-use Rattle.std.specs.List.{All, AllByRecursion, Contains}
+use Rattle.std.specs.List.{AllByRecursion}
 use Rattle.std.proofs.lemmas.Int.{ints}
 use Rattle.std.proofs.lemmas.List.{append-nil}
 use Rattle.std.proofs.lemmas.List.Elements.{All-from_recursion, Contains-get_or}
 use Rattle.dvi_ops.specs.Command.{Command, Definition}
-use Rattle.dvi_ops.specs.Command.Command.{Set, Put, PutRule, Right, Down, Fnt, Xxx, Bop, Eop, Pre, Post, PostPost, FntDef}
+use Rattle.dvi_ops.specs.Command.Command.{Set, Put, PutRule, Right, Down, Fnt, Xxx, Bop, Eop, Pre, PostPost, FntDef}
 use Rattle.dvi_ops.specs.Laws.{ShortestSpelling}
 use Rattle.dvi_ops.specs.Numbered.{Has, HasTwice}
 use Rattle.dvi_ops.specs.Placed.{Placed, Lexes}
@@ -14,13 +14,13 @@ use Rattle.dvi_ops.specs.Shortest.{HasRoom, shortest_whole}
 use Rattle.dvi_doc.specs.Document as document
 use Rattle.dvi_doc.specs.Document.{PageOf, Item, File, between, commands_of, definitions_before, definitions_of, document_of, pages_of, placed}
 use Rattle.dvi_doc.specs.Document.Item.{Filler, Paged}
-use Rattle.dvi_doc.specs.Grammar.{AllAmong, AllFillers, AllInner, AllItems, AreFonts, IsDoc, IsFile, IsFill, IsFiller, IsInner, IsNamed, IsSize, IsSized, first_place, number_of, numbers_of}
+use Rattle.dvi_doc.specs.Grammar.{AllAmong, AllFillers, AllInner, AllItems, AreFonts, IsFile, IsFill, IsFiller, IsInner, IsNamed, IsSize, IsSized, first_place, numbers_of}
 use Rattle.positions.specs.Mark.{Mark}
 use Rattle.positions.specs.Mark.Mark.{OfGlyph, OfRule, OfSpecial}
 use Rattle.font_set.specs.Key.{Key, IsKey, IsUnits}
 use Rattle.font_set.specs.Fonts.{Entry, FontSet}
-use Rattle.dvicopy_out.specs.AsDocument.{SpellableIsDocument, IsSpellable, copy_commands, file_of, fillers, page_at, paged, pages_commands, pages_place, placed_from, post_command, post_place}
-use Rattle.dvicopy_out.specs.Copies.{Page, Work, back_commands, body, file, filling, front_commands, last_bop, page_commands, pages_bytes, postamble, preamble}
+use Rattle.dvicopy_out.specs.AsDocument.{SpellableIsDocument, copy_commands, file_of, fillers, paged, pages_commands, pages_place, placed_from, post_command, post_place}
+use Rattle.dvicopy_out.specs.Copies.{Page, Work, back_commands, body, file, filling, front_commands, last_bop, page_commands, pages_bytes, preamble}
 use Rattle.std.specs.Ordering.{int_eq}
 use Rattle.dvicopy_out.specs.Marked.{Pen, char_command, fits, is_selected, mark_commands, mark_pen, marks_commands, page_pen, selecting, way}
 use Rattle.dvicopy_out.specs.Moves.{first_part, moves, part}
@@ -31,7 +31,7 @@ use Rattle.dvicopy_out.proofs.Spelling.{spelled_both}
 
 -- ---- commands with their places
 
-spells : ShortestSpelling → (at : ℕ) (cs : List Command) → AllByRecursion HasRoom cs → Lexes at (spelled cs) (placed_from at cs)
+pub spells : ShortestSpelling → (at : ℕ) (cs : List Command) → AllByRecursion HasRoom cs → Lexes at (spelled cs) (placed_from at cs)
 spells law at [] h = refl
 spells law at (c ∷ cs) h = (refl, shortest_whole c, spelled cs, refl, (law c h.0).0, spells law (at + length (shortest_whole c)) cs h.1)
 
@@ -53,9 +53,10 @@ pages_spelled set last at (p ∷ ps) =
     let next : ℕ = at + length (spelled here) in
     spelled_both here (pages_commands set (pos at) next ps) ∙ ap (λ bs. spelled here ++ bs) (pages_spelled set (pos at) next ps)
 
-between_pages : (set : FontSet) (last : ℤ) (at : ℕ) (ps : List Page) → between last (paged set last at ps) ≡ placed_from at (pages_commands set last at ps)
-between_pages set last at [] = refl
-between_pages set last at (p ∷ ps) =
+-- the commands of a page and of those behind it, with their places
+pub page_placed_from : (set : FontSet) (last : ℤ) (at : ℕ) (p : Page) (ps : List Page) → let first : ℕ = at + length (shortest_whole (Bop p.counts last)) in let next : ℕ = at + length (spelled (page_commands set last p)) in
+    placed_from at (pages_commands set last at (p ∷ ps)) ≡ placed at (Bop p.counts last) ∷ (placed_from first (marks_commands set page_pen p.marks) ++ placed (first + length (spelled (marks_commands set page_pen p.marks))) Eop ∷ placed_from next (pages_commands set (pos at) next ps))
+page_placed_from set last at p ps =
     let bop : Command = Bop p.counts last in
     let marks : List Command = marks_commands set page_pen p.marks in
     let first : ℕ = at + length (shortest_whole bop) in
@@ -68,8 +69,16 @@ between_pages set last at (p ∷ ps) =
     let tail_ : placed_from first (body_ ++ rest) ≡ placed_from first marks ++ placed eop Eop ∷ placed_from next rest =
     placed_both first body_ rest ∙ ap (λ (n : ℕ). placed_from first body_ ++ placed_from n rest) e ∙ ap (λ (l : List Placed). l ++ placed_from next rest) (placed_both first marks (Eop ∷ []))
     ∙ append_assoc (placed_from first marks) (placed eop Eop ∷ []) (placed_from next rest) in
-    ap (λ (l : List Placed). placed at bop ∷ (placed_from first marks ++ placed eop Eop ∷ l)) (between_pages set (pos at) next ps)
-    ∙ ap (λ (l : List Placed). placed at bop ∷ l) (sym tail_)
+    ap (λ (l : List Placed). placed at bop ∷ l) tail_
+
+between_pages : (set : FontSet) (last : ℤ) (at : ℕ) (ps : List Page) → between last (paged set last at ps) ≡ placed_from at (pages_commands set last at ps)
+between_pages set last at [] = refl
+between_pages set last at (p ∷ ps) =
+    let first : ℕ = at + length (shortest_whole (Bop p.counts last)) in
+    let marks : List Command = marks_commands set page_pen p.marks in
+    let next : ℕ = at + length (spelled (page_commands set last p)) in
+    ap (λ (l : List Placed). placed at (Bop p.counts last) ∷ (placed_from first marks ++ placed (first + length (spelled marks)) Eop ∷ l)) (between_pages set (pos at) next ps)
+    ∙ sym (page_placed_from set last at p ps)
 
 -- the commands of the file are those of the copy at their places
 commands_are : (w : Work) (ps : List Page) → commands_of (file_of w ps) ≡ placed_from 0 (copy_commands w ps)
@@ -100,7 +109,7 @@ commands_are w ps =
     ((λ i. left i ++ sym backs i) ∙ sym right)
 
 -- the bytes of the copy are those of its commands
-body_is : (w : Work) (ps : List Page) → body w ps ≡ spelled (copy_commands w ps)
+pub body_is : (w : Work) (ps : List Page) → body w ps ≡ spelled (copy_commands w ps)
 body_is w ps =
     let front : List Command = front_commands w in
     let start : ℕ = pages_place w in

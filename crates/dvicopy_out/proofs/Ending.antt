@@ -1,9 +1,8 @@
 -- How a copy ends.
-use Rattle.std.proofs.Common.{◌≡◌, ◌<◌, ◌≤◌, ◌+◌, ◌-◌, ◌%◌, ◌^◌, ℕ, ℤ, zero, suc, List, [], ◌∷◌, ◌++◌, length, take, Option, Some, None, refl, sym, ap, ◌∙◌, subst, arith, inl, inr, length-append}
+use Rattle.std.proofs.Common.{◌≡◌, ◌<◌, ◌≤◌, ◌+◌, ◌-◌, ◌%◌, ◌^◌, ℕ, zero, suc, List, [], ◌∷◌, ◌++◌, length, take, Option, Some, None, refl, sym, ap, ◌∙◌, subst, arith, length-append}
 use Rattle.std.specs.Prelude.{min, replicate}
 use Rattle.std.specs.List.{AllByRecursion}
 use Rattle.std.proofs.lemmas.List.{length-replicate}
-use Rattle.dv_base.specs.Causes.{Rose}
 use Rattle.dv_base.specs.Tray.{Output, Seen, WhereTold, Appends, AppendsFront, Begins, KeepsNames, append_last}
 use Rattle.dvicopy_out.specs.Copies.{Page, Work, body, file, filling, front_commands, pages_length}
 use Rattle.dvicopy_out.specs.Numbered.{definitions}

@@ -10,3 +10,6 @@ pub mod Documented
 pub mod Spellable
 pub mod Same
 pub mod RealFonts
+pub mod Making
+pub mod Keeping
+pub mod Cutting

@@ -1,5 +1,5 @@
 -- Pages one after another, and how long they are.
-use Rattle.std.proofs.Common.{◌≡◌, ◌<◌, ◌≤◌, ◌+◌, ◌*◌, ℕ, ℤ, pos, negsuc, zero, suc, List, [], ◌∷◌, ◌++◌, length, map, take, Option, Some, refl, sym, ap, ◌∙◌, subst, arith, append_assoc, length-append}
+use Rattle.std.proofs.Common.{◌≡◌, ◌+◌, ◌*◌, ℕ, ℤ, pos, negsuc, List, [], ◌∷◌, ◌++◌, length, refl, sym, ap, ◌∙◌, arith, append_assoc, length-append}
 use Rattle.std.specs.List.{AllByRecursion}
 use Rattle.std.specs.Int.{cast_unsigned, w32}
 use Rattle.std.proofs.lemmas.List.{append-nil}
@@ -8,7 +8,7 @@ use Rattle.byteorder.specs.Numbers.{length-bytes_high_first}
 use Rattle.dvi_ops.specs.Command.{Command, Postamble}
 use Rattle.dvi_ops.specs.Command.Command.{Bop, Eop, Post, PostPost}
 use Rattle.font_set.specs.Fonts.{FontSet}
-use Rattle.dvi_ops.specs.Shortest.{bytes_of, shortest, shortest_whole, words_of, postamble_bytes}
+use Rattle.dvi_ops.specs.Shortest.{bytes_of, shortest, words_of}
 use Rattle.dvicopy_out.specs.Spelled.{spelled}
 use Rattle.dvicopy_out.specs.Marked.{marks_commands, page_pen}
 use Rattle.dvicopy_out.specs.Numbered.{definitions}

@@ -1,15 +1,13 @@
 -- That a copy defines real fonts alone.
-use Rattle.std.proofs.Common.{◌≡◌, ◌<◌, ◌≤◌, ◌+◌, ℕ, pos, zero, suc, Bool, true, false, List, [], ◌∷◌, ◌++◌, length, take, Option, Some, refl, sym, ap, subst, ◌∙◌, arith, append_assoc, length-append}
+use Rattle.std.proofs.Common.{◌≡◌, ◌+◌, ℕ, Bool, true, false, List, [], ◌∷◌, ◌++◌, length, take, Option, Some, refl, sym, ap, subst, ◌∙◌, arith, append_assoc, length-append}
 use Rattle.std.specs.Prelude.{slice_get}
 use Rattle.std.specs.List.{All, AllByRecursion}
-use Rattle.std.proofs.lemmas.List.{append-nil}
 use Rattle.std.proofs.lemmas.List.Elements.{All-from_recursion}
 use Rattle.dvi_ops.specs.Command.{Definition}
 use Rattle.dvi_ops.specs.Shortest.{shortest_whole}
 use Rattle.font_set.specs.Key.{Key}
 use Rattle.font_set.specs.Fonts.{Entry, FontSet, entry_key, key_at, state_at, state_in}
 use Rattle.dvicopy_out.specs.AsDocument.{post_command, post_place}
-use Rattle.dvicopy_out.specs.Copies.{Page, Work}
 use Rattle.dvicopy_out.specs.Numbered.{definition, is_real, number_of, one_where, reals_in}
 use Rattle.dvicopy_out.specs.RealFonts.{CopyDefinesReal, IsReal}
 use Rattle.dvicopy_out.proofs.Documented.{defs_are, defs_from, defs_put}

@@ -1,21 +1,21 @@
 -- That the pages of a copy have the marks of the original's.
-use Rattle.std.proofs.Common.{rules, ◌≡◌, ◌<◌, ◌≤◌, ◌+◌, ◌-◌, ◌^◌, ◌+ℤ◌, ◌-ℤ◌, ◌<ℤ◌, ℕ, ℤ, pos, negsuc, zero, suc, Bool, true, false, List, [], ◌∷◌, ◌++◌, length, map, take, Option, Some, None, refl, sym, ap, subst, ◌∙◌, arith, inl, inr, append_assoc, length-append, lt-ltb, ltb-true}
-use Rattle.std.specs.Prelude.{if◌then◌else◌, unsigned_abs, nat_lt, nat_eq, int_lt, slice_get, ◌&&◌}
+use Rattle.std.proofs.Common.{◌≡◌, ◌<◌, ◌+◌, ◌^◌, ◌+ℤ◌, ◌-ℤ◌, ℕ, ℤ, pos, negsuc, zero, suc, Bool, true, false, List, [], ◌∷◌, ◌++◌, length, take, Option, Some, None, refl, sym, ap, subst, ◌∙◌, arith, append_assoc, lt-ltb, ltb-true}
+use Rattle.std.specs.Prelude.{if◌then◌else◌, unsigned_abs, nat_eq, int_lt, slice_get, ◌&&◌}
 use Rattle.std.specs.List.{AllByRecursion}
 use Rattle.std.specs.Ordering.{int_eq}
 use Rattle.std.proofs.lemmas.Bool.Decides.{Decides-int_eq, Decides-eqb}
 use Rattle.std.proofs.lemmas.Int.{ints}
 use Rattle.std.proofs.lemmas.List.{append-nil, map-append}
-use Rattle.dv_base.specs.Rounding.{rounded, ceiling}
+use Rattle.dv_base.specs.Rounding.{rounded}
 use Rattle.positions.specs.Drift.{advanced, down, is_large_across, is_large_down, pixels_after, pixels_behind, right}
 use Rattle.positions.specs.Mark.{Mark, Small}
 use Rattle.positions.specs.Mark.Mark.{OfGlyph, OfRule, OfSpecial}
 use Rattle.positions.specs.Place.{Place, origin}
 use Rattle.dvi_ops.specs.Command.{Command, Definition}
-use Rattle.dvi_ops.specs.Command.Command.{Set, Put, PutRule, Right, Down, Fnt, Xxx, Bop, Eop}
+use Rattle.dvi_ops.specs.Command.Command.{Set, Put, PutRule, Right, Down, Fnt, Xxx, Bop}
 use Rattle.dvi_ops.specs.Placed.{Placed}
 use Rattle.dvi_ops.specs.Shortest.{shortest_whole}
-use Rattle.font_set.specs.Tree.{Bracket, Levels, Tree, bracket, level, levels, tree_of, whole_tree}
+use Rattle.font_set.specs.Tree.{Tree, bracket, level, levels, tree_of, whole_tree}
 use Rattle.font_set.specs.Tree.Tree.{End, Then}
 use Rattle.font_set.specs.Tree.Bracket.{Neither}
 use Rattle.font_set.specs.Key.{Key}
@@ -32,8 +32,8 @@ use Rattle.dvi_ops.specs.Command.Command.{Pre}
 use Rattle.dvicopy_out.specs.Units.{AreOf, CopyKeepsPages, HasUnits, IsOf, SamePages, Serves, Serving, UnitMark, unit_of, units_of}
 use Rattle.dvicopy_out.specs.Units.UnitMark.{UnitGlyph, UnitRule, UnitSpecial}
 use Rattle.dvicopy_out.specs.AsDocument.{file_of, paged, pages_place, placed_from, post_command, post_place}
-use Rattle.dvicopy_out.specs.Copies.{Page, Work, page_commands, preamble}
-use Rattle.dvicopy_out.specs.Marked.{Pen, char_command, fits, is_selected, mark_commands, mark_pen, marks_commands, page_pen, selecting, way}
+use Rattle.dvicopy_out.specs.Copies.{Page, page_commands, preamble}
+use Rattle.dvicopy_out.specs.Marked.{Pen, char_command, fits, mark_commands, mark_pen, marks_commands, page_pen, selecting, way}
 use Rattle.dvicopy_out.specs.Moves.{first_part, moves, part}
 use Rattle.dvicopy_out.specs.Numbered.{definitions, is_real, number_of, one_where, reals_in}
 use Rattle.dvicopy_out.specs.Spelled.{spelled}
@@ -46,7 +46,7 @@ abbrev pub flat : List Placed → Tree
 flat [] = End
 flat (c ∷ cs) = Then c (flat cs)
 
-paints_neither : (c : Command) → Paints c → bracket c ≡ Neither
+pub paints_neither : (c : Command) → Paints c → bracket c ≡ Neither
 paints_neither (Set c) h = refl
 paints_neither (Put c) h = refl
 paints_neither (PutRule a b) h = refl
@@ -89,7 +89,7 @@ after_same : (o : Outcome) (f g : grid.State → Outcome) → ((s : grid.State) 
 after_same None f g h = refl
 after_same (Some r) f g h = ap (prepend r.0) (h r.1)
 
-flat_both : (m : Meaning) (cs ds : List Placed) (s : grid.State) → marks m (flat (cs ++ ds)) s ≡ after (marks m (flat cs) s) (marks m (flat ds))
+pub flat_both : (m : Meaning) (cs ds : List Placed) (s : grid.State) → marks m (flat (cs ++ ds)) s ≡ after (marks m (flat cs) s) (marks m (flat ds))
 unfolding marks
 flat_both m [] ds s = sym (prepend_nil (marks m (flat ds) s))
 flat_both m (c ∷ cs) ds s =
@@ -157,7 +157,7 @@ down_to g space p q small =
     (r, ap (λ (b : Bool). if b then Some r else None) (lt-ltb (unsigned_abs (p.v +ℤ q)) (2 ^ 31) small), refl, refl)
 
 -- the meaning of a page's commands in another set
-abbrev page_meaning : Grid → FontSet → List Definition → Meaning
+abbrev pub page_meaning : Grid → FontSet → List Definition → Meaning
 page_meaning g other ds = meaning g other most_nested (page_scope ds)
 
 right_part : (g : Grid) (other : FontSet) (ds : List Definition) (at : ℕ) (q : ℤ) (s : grid.State) → Small (s.place.h +ℤ q) → Reaches (page_meaning g other ds) other at (part Right q) s (s.place.h +ℤ q) s.place.v s.font []
@@ -434,7 +434,7 @@ marks_go set other g at p (x ∷ ms) s serves stands put of =
 
 -- ---- pages
 
-page_kept : (set other : FontSet) (g : Grid) (first : ℕ) (p : Page) → Serves set other → AllByRecursion IsPut p.marks → AllByRecursion (IsOf set) p.marks
+pub page_kept : (set other : FontSet) (g : Grid) (first : ℕ) (p : Page) → Serves set other → AllByRecursion IsPut p.marks → AllByRecursion (IsOf set) p.marks
     → HasUnits other (units_of set p.marks) (page_marks g other (defs_from 0 set.fonts) (placed_from first (marks_commands set page_pen p.marks)))
 page_kept set other g first p serves put of =
     let ds : List Definition = defs_from 0 set.fonts in

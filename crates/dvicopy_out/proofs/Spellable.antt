@@ -1,21 +1,21 @@
 -- That the commands of a copy have room for their operands.
-use Rattle.std.proofs.Common.{rules, ◌≡◌, ◌<◌, ◌≤◌, ◌+◌, ◌-◌, ◌%◌, ◌^◌, ◌+ℤ◌, ◌-ℤ◌, ℕ, ℤ, pos, negsuc, zero, suc, Bool, true, false, List, [], ◌∷◌, ◌++◌, length, take, refl, sym, ap, subst, ◌∙◌, arith, length-append, w32, ltb-true}
-use Rattle.std.specs.Prelude.{FitsSigned, if◌then◌else◌, unsigned_abs, nat_lt}
-use Rattle.std.specs.List.{All, AllByRecursion}
+use Rattle.std.proofs.Common.{◌≡◌, ◌<◌, ◌≤◌, ◌+◌, ◌-◌, ◌%◌, ◌^◌, ◌+ℤ◌, ◌-ℤ◌, ℕ, ℤ, pos, negsuc, zero, suc, Bool, true, false, List, [], ◌∷◌, ◌++◌, length, take, refl, arith, length-append, w32, ltb-true}
+use Rattle.std.specs.Prelude.{if◌then◌else◌, unsigned_abs, nat_lt}
+use Rattle.std.specs.List.{AllByRecursion}
 use Rattle.std.specs.Ordering.{int_eq}
 use Rattle.std.proofs.lemmas.Int.{ints, fits_signed_from_abs}
 use Rattle.positions.specs.Mark.{Mark, Small}
 use Rattle.positions.specs.Mark.Mark.{OfGlyph, OfRule, OfSpecial}
 use Rattle.dvi_ops.specs.Command.{Command}
-use Rattle.dvi_ops.specs.Command.Command.{Set, Put, PutRule, Right, Down, Fnt, Xxx, Bop, Eop, Pre, Post, PostPost, FntDef}
-use Rattle.dvi_ops.specs.Shortest.{HasRoom, IsWord, shortest_whole}
-use Rattle.font_set.specs.Key.{Key, IsKey}
+use Rattle.dvi_ops.specs.Command.Command.{PutRule, Right, Down, Fnt, Xxx, Eop, PostPost, FntDef}
+use Rattle.dvi_ops.specs.Shortest.{HasRoom, IsWord}
+use Rattle.font_set.specs.Key.{IsKey}
 use Rattle.font_set.specs.Fonts.{Entry, FontSet}
-use Rattle.dvicopy_out.specs.AsDocument.{IsSpellable, copy_commands, pages_commands, pages_place, post_place}
+use Rattle.dvicopy_out.specs.AsDocument.{IsSpellable, pages_commands, pages_place, post_place}
 use Rattle.dvicopy_out.specs.Writable.{IsPut, IsPutPage, IsPutFont, IsPutCopy}
-use Rattle.dvicopy_out.specs.Copies.{Page, Work, back_commands, body, file, filling, front_commands, last_bop, page_commands, pages_bytes, postamble, preamble}
-use Rattle.dvicopy_out.specs.Marked.{Pen, char_command, fits, glyph_pen, is_selected, mark_commands, mark_pen, marks_commands, page_pen, selecting, way}
-use Rattle.dvicopy_out.specs.Moves.{first_part, furthest, moves, part}
+use Rattle.dvicopy_out.specs.Copies.{Page, Work, back_commands, filling, front_commands, last_bop, page_commands, pages_bytes}
+use Rattle.dvicopy_out.specs.Marked.{Pen, char_command, fits, is_selected, mark_commands, mark_pen, marks_commands, page_pen, selecting, way}
+use Rattle.dvicopy_out.specs.Moves.{first_part, moves, part}
 use Rattle.dvicopy_out.specs.Numbered.{definition, definitions, definitions_from, is_real, number_of, one_where, put_definition, reals_in}
 use Rattle.dvicopy_out.specs.Spelled.{spelled}
 use Rattle.dvicopy_out.proofs.Documented.{each_both}

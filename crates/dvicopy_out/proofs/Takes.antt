@@ -1,6 +1,6 @@
 -- What the calls of a canvas leave.
-use Rattle.std.proofs.Common.{arith, length-append, ◌≡◌, ◌+◌, ◌-◌, ◌^◌, ℕ, List, [], ◌∷◌, ◌++◌, length, refl, sym, ap, ◌∙◌, subst}
-use Rattle.std.specs.Prelude.{Result, Ok, Err, OnOk, IfErr, min}
+use Rattle.std.proofs.Common.{arith, length-append, ◌≡◌, ℕ, List, [], ◌∷◌, ◌++◌, length, sym, ap, ◌∙◌, subst}
+use Rattle.std.specs.Prelude.{Result, Ok, Err, OnOk, IfErr}
 use Rattle.std.proofs.lemmas.List.{append-nil}
 use Rattle.dv_base.specs.declared.tray.Tray.{Ghosts}
 use Rattle.positions.specs.Mark.{Mark}

@@ -1,8 +1,7 @@
 -- Pages that were walked over.
-use Rattle.std.proofs.Common.{length-append, ◌≡◌, ◌<◌, ◌≤◌, ◌+◌, ◌-◌, ◌^◌, ℕ, ℤ, pos, zero, suc, List, [], ◌∷◌, ◌++◌, length, map, get_or, take, Option, Some, None, Result, arith, refl, sym, ap, subst, ◌∙◌}
+use Rattle.std.proofs.Common.{length-append, ◌≡◌, ◌<◌, ◌≤◌, ◌+◌, ℕ, ℤ, zero, suc, List, [], ◌∷◌, ◌++◌, length, map, get_or, Some, Result, arith, refl, sym, ap, subst, ◌∙◌}
 use Rattle.std.specs.Prelude.{slice_get}
 use Rattle.std.specs.Option.{option_map}
-use Rattle.std.specs.Result.{IsErr}
 use Rattle.std.proofs.lemmas.List.{length-map}
 use Rattle.std.proofs.lemmas.Option.{slice_get-map}
 use Rattle.dv_base.specs.declared.tray.Tray.{Ghosts}
@@ -14,7 +13,6 @@ use Rattle.positions.specs.Place.{origin}
 use Rattle.dvi_ops.specs.Command.{Command}
 use Rattle.dvi_ops.specs.Command.Command.{Bop, Eop}
 use Rattle.dvi_doc.specs.Document.{Document, PageOf}
-use Rattle.dvi_doc.specs.Grammar.{IsDoc}
 use Rattle.dvi_doc.specs.Laws.{OneDocument}
 use Rattle.dvi_doc.specs.View.{IsRead, Outline, ReadDoc, outline, page_view}
 use Rattle.dvi_doc.specs.declared.page.Page as doc_page
@@ -23,7 +21,7 @@ use Rattle.font_set.specs.Frames.{FontAct}
 use Rattle.font_set.specs.Programs.{Program, page_program}
 use Rattle.font_set.specs.Search.{page_of}
 use Rattle.font_set.specs.Count.{count}
-use Rattle.vf_expand.specs.Grid.{Grid, State}
+use Rattle.vf_expand.specs.Grid.{Grid}
 use Rattle.vf_expand.specs.Marks.{Outcome, marks_alone}
 use Rattle.vf_expand.specs.Pages.{frame_marks, most_nested}
 use Rattle.vf_expand.specs.Page.{IsPage, IsPageCause, IsShallowPage, page_count, page_marks}
@@ -44,7 +42,7 @@ use Rattle.dvicopy_out.specs.Measured.{IsTakeable}
 use Rattle.dvicopy_out.specs.declared.measure.Measure.{Measure}
 use Rattle.dvicopy_out.specs.Pages.{IsCauseAt, IsReady, copy_page, counts_in, eop_in, marks_or_none, outcome_at}
 use Rattle.dvicopy_out.specs.Sent.{Out, Sent, Cut, Sends, cut_later, cut_longer, then_sends}
-use Rattle.dvicopy_out.specs.Shown.{Holds, fonts_of, out_of, pen_of, place_of}
+use Rattle.dvicopy_out.specs.Shown.{fonts_of, out_of, pen_of, place_of}
 use Rattle.dvicopy_out.specs.Taken.{Took, Refused, refused_cut}
 use Rattle.dvicopy_out.specs.declared.writer.Writer.{Writer}
 use Rattle.dvicopy_out.proofs.Spelling.{spelled_both}

@@ -1,8 +1,8 @@
 -- A copy as a document.
-use Rattle.std.specs.Prelude.{◌≡◌, ◌<◌, ◌+◌, ℕ, ℤ, pos, negsuc, List, [], ◌∷◌, ◌++◌, length}
+use Rattle.std.specs.Prelude.{◌+◌, ℕ, ℤ, pos, negsuc, List, [], ◌∷◌, ◌++◌, length}
 use Rattle.std.specs.List.{AllByRecursion}
-use Rattle.dvi_ops.specs.Command.{Command, Definition}
-use Rattle.dvi_ops.specs.Command.Command.{Bop, Eop, Pre, Post, PostPost}
+use Rattle.dvi_ops.specs.Command.{Command}
+use Rattle.dvi_ops.specs.Command.Command.{Bop, Pre, Post}
 use Rattle.dvi_ops.specs.Shortest.{HasRoom, shortest_whole}
 use Rattle.dvi_doc.specs.Document.{Placed, PageOf, Item, File, document_of, placed}
 use Rattle.dvi_doc.specs.Document.Item.{Filler, Paged}

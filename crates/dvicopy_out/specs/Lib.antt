@@ -17,3 +17,6 @@ pub mod AsDocument
 pub mod Writable
 pub mod Units
 pub mod RealFonts
+pub mod Made
+pub mod Keyed
+pub mod Cuts

@@ -1,6 +1,6 @@
 -- What a measure counted, put together. (These laws stand here and not in proofs/, since the crate's canvas cites them.)
 use Rattle.std.specs.Prelude.{◌≡◌, ◌<◌, ◌^◌, ℕ, List, [], ◌∷◌, ◌++◌, length}
-use Rattle.std.proofs.Common.{◌+◌, ◌-◌, refl, sym, ap, ◌∙◌, subst, append_assoc, arith, length-append}
+use Rattle.std.proofs.Common.{◌+◌, refl, sym, ap, ◌∙◌, append_assoc, arith, length-append}
 use Rattle.positions.specs.Mark.{Mark}
 use Rattle.dvi_ops.specs.Command.{Command}
 use Rattle.font_set.specs.Fonts.{FontSet}

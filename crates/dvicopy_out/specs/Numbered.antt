@@ -1,5 +1,5 @@
 -- The fonts of a copy: those real ones of a set that are loaded, numbered from 0 by their ids.
-use Rattle.std.specs.Prelude.{ℕ, ℤ, pos, Bool, true, false, List, [], ◌∷◌, take, ◌+◌, if◌then◌else◌}
+use Rattle.std.specs.Prelude.{ℕ, pos, Bool, true, false, List, [], ◌∷◌, take, ◌+◌, if◌then◌else◌}
 use Rattle.dvi_ops.specs.Command.{Command, Definition}
 use Rattle.dvi_ops.specs.Command.Command.{FntDef}
 use Rattle.font_set.specs.Key.{Key}

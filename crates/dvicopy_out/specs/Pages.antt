@@ -1,6 +1,6 @@
 -- The pages of a copy, by the places of the chosen pages in their document.
-use Rattle.std.specs.Prelude.{◌≡◌, ◌<◌, ◌≤◌, ◌+◌, ◌^◌, ℕ, ℤ, List, [], ◌∷◌, length, map, slice_get, Option, Some, None}
-use Rattle.std.specs.List.{All, AllByRecursion, Contains}
+use Rattle.std.specs.Prelude.{◌≡◌, ◌<◌, ◌+◌, ℕ, ℤ, List, [], ◌∷◌, length, map, slice_get, Option, Some, None}
+use Rattle.std.specs.List.{Contains}
 use Rattle.dv_base.specs.declared.font_id.Spot.TheVariants as spot
 use Rattle.positions.specs.Mark.{Mark}
 use Rattle.positions.specs.Place.{origin}

@@ -1,7 +1,7 @@
 -- What goes out through a buffer: what the tray has taken, and what still waits. (The laws stand here and not in proofs/, since the crate's
 -- canvas cites them.)
-use Rattle.std.specs.Prelude.{◌≡◌, ◌<◌, ◌≤◌, ◌^◌, ℕ, List, [], ◌++◌, length, take, min, Result, Ok, Err, MatchResult, IsErr}
-use Rattle.std.proofs.Common.{◌+◌, ◌-◌, rules, refl, sym, ap, ◌∙◌, arith, length-append, subst, append_assoc}
+use Rattle.std.specs.Prelude.{◌≡◌, ◌≤◌, ℕ, List, [], ◌++◌, length, take, Result, Ok, Err, MatchResult, IsErr}
+use Rattle.std.proofs.Common.{◌+◌, rules, refl, sym, ap, ◌∙◌, arith, length-append, subst, append_assoc}
 use Rattle.std.proofs.lemmas.List.{take-append-le, append-nil}
 use Rattle.std.proofs.Math.Seq.{take-append-add}
 use Rattle.dv_base.specs.Causes.{Rose}

@@ -7,9 +7,9 @@ use Rattle.positions.specs.Conditions.{SameCondition}
 use Rattle.font_set.specs.Fonts.{FontSet}
 use Rattle.dvicopy_out.specs.Counted.{counted}
 use Rattle.dvicopy_out.specs.Spelled.{spelled}
-use Rattle.dvicopy_out.specs.Marked.{Pen, mark_commands, mark_pen, marks_commands, marks_pen}
+use Rattle.dvicopy_out.specs.Marked.{Pen, marks_commands, marks_pen}
 use Rattle.dvicopy_out.specs.Measured.{IsTakeable}
-use Rattle.dvicopy_out.specs.MeasuredLaws.{marks_spelled, marks_pen-append, counted_none, counted_more, spelled-append, marks_commands-append}
+use Rattle.dvicopy_out.specs.MeasuredLaws.{marks_spelled, marks_pen-append, counted_none, counted_more}
 use Rattle.dvicopy_out.specs.Sent.{Out, Sent, Cut, sent_nothing, sent_more, cut_later, cut_longer}
 use Rattle.dvicopy_out.specs.Shown.{Holds, fonts_of, holds_more, last_of, out_of, pen_of, place_of}
 use Rattle.dvicopy_out.specs.declared.writer.Writer.{Writer}

@@ -1,5 +1,5 @@
 -- The marks of a copy's pages in units, by the keys of their fonts.
-use Rattle.std.specs.Prelude.{◌≡◌, ◌<◌, ℕ, ℤ, pos, int_lt, ◌&&◌, true, List, [], ◌∷◌, length, map, Option, Some, None}
+use Rattle.std.specs.Prelude.{◌≡◌, ◌<◌, ℕ, ℤ, pos, int_lt, ◌&&◌, true, List, [], ◌∷◌, length, map, Some, None}
 use Rattle.std.specs.List.{AllByRecursion}
 use Rattle.positions.specs.Mark.{Mark}
 use Rattle.positions.specs.Mark.Mark.{OfGlyph, OfRule, OfSpecial}

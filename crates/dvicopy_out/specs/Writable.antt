@@ -1,11 +1,10 @@
 -- What makes a copy one that can be spelled.
-use Rattle.std.specs.Prelude.{◌≡◌, ◌<◌, ◌≤◌, ◌^◌, ℕ, ℤ, List, length, FitsSigned}
-use Rattle.std.specs.Int.{w32}
+use Rattle.std.specs.Prelude.{◌≡◌, ◌<◌, ◌≤◌, ◌^◌, List, length}
 use Rattle.std.specs.List.{All, AllByRecursion}
 use Rattle.positions.specs.Mark.{Mark, IsModerate}
 use Rattle.positions.specs.Mark.Mark.{OfGlyph, OfRule, OfSpecial}
 use Rattle.dvi_ops.specs.Shortest.{IsWord}
-use Rattle.font_set.specs.Key.{IsKey}
+use Rattle.font_set.specs.Key.{IsKey, Key}
 use Rattle.font_set.specs.Fonts.{Entry}
 use Rattle.dvicopy_out.specs.Copies.{Page, Work, file}
 use Rattle.dvi_doc.specs.Document.{document_of}
@@ -25,9 +24,12 @@ pub record IsPutPage (p : Page) : Type 0 where
   pub marks : AllByRecursion IsPut p.marks
 
 -- a font's key is as it should be, and its checksum has 32 bits
-pub record IsPutFont (e : Entry) : Type 0 where
-  pub key : IsKey e.key
-  pub checksum : e.key.checksum < 2 ^ 32
+pub record IsPutKey (k : Key) : Type 0 where
+  pub key : IsKey k
+  pub checksum : k.checksum < 2 ^ 32
+
+abbrev pub IsPutFont : Entry → Type 0
+IsPutFont e = IsPutKey e.key
 
 -- The numbers of the preamble and of the postamble have 32 bits, the comment fewer than 256 bytes; the fonts are at most 1,000; and the
 -- copy has fewer than 2^31 bytes.

@@ -1,8 +1,9 @@
 //! A document in, its copy out.
 ghost use Rattle.std.specs.Prelude.{◌≡◌, ◌<◌, ◌≤◌, ◌+◌, ◌-◌, ◌%◌, ◌^◌, ◌++◌, ◌∷◌, [], OnOk, OnErr, IfOk, IfErr, MatchBool, length, negsuc, pos, unsigned_abs, vec_len, vec_capacity};
-ghost use Rattle.std.specs.List.{AllByRecursion};
+ghost use Rattle.std.specs.List.{All, AllByRecursion};
 ghost use Rattle.dv_base.specs.FileName.{text_of};
 ghost use Rattle.dvi_doc.specs.View.{IsRead};
+ghost use Rattle.dvi_ops.specs.Shortest.{IsWord};
 ghost use Rattle.font_set.specs.Count.{count};
 ghost use Rattle.font_set.specs.Search.{page_of};
 ghost use Rattle.vf_expand.specs.Pages.{most_nested};
@@ -10,6 +11,7 @@ ghost use Rattle.vf_expand.specs.Causes.{IsMany};
 ghost use Rattle.dvicopy_out.specs.Copies.{back_commands, filling, front_commands, last_bop, page_commands, page_length, pages_bytes, pages_length};
 ghost use Rattle.dvicopy_out.specs.Counted.{counted};
 ghost use Rattle.dvicopy_out.specs.Leaves.{Copied, CopyFails, copy_of, work_of};
+ghost use Rattle.dvicopy_out.specs.Made.{IsMade, IsPutAt, WhereBegun};
 ghost use Rattle.dvicopy_out.specs.Measured as measured;
 ghost use Rattle.dvicopy_out.specs.Pages.{IsCauseAt, IsCovered, IsReady, IsWalkCause, commands_at, copy_page, copy_pages};
 ghost use Rattle.dvicopy_out.specs.Sent.{Sends};
@@ -30,7 +32,7 @@ use dvi_ops::{Cmd, Tail};
 use font_set::Fonts;
 use positions::NoFault;
 use std::alloc::Global;
-use vf_expand::{WalkFault, Walker, pages_by_place};
+use vf_expand::{WalkFault, Walker, pages_by_place, painted_rules};
 
 /// The longest copy, in bytes.
 const LONGEST: u64 = 2_147_483_647;
@@ -41,12 +43,36 @@ const BEHIND: u64 = 35;
 /// The bytes that fill a file up.
 const FILL: [u8; 7] = [223; 7];
 
+/// Each count has 32 bits.
+fn counts_fit(counts: &[i32])
+    ensures { All IsWord counts.now }
+{
+    for count in counts {
+        let _number = *count;
+    }
+}
+
 /// The counts of a page, of which there are ten.
 fn counts(page: &Page) -> &[i32; 10]
     ensures value { result.now ≡ page.now.counts }
     ensures ten { length page.now.counts ≡ 10 }
+    ensures words { All IsWord page.now.counts }
 {
+    counts_fit(&page.counts);
     &page.counts
+}
+
+/// The numbers of a document's preamble and postamble have 32 bits, and the comment is short. A caller cites what this ensures; the call
+/// does nothing.
+fn numbers_fit(doc: &Doc<'_>)
+    ensures num { IsWord doc.now.head.num }
+    ensures den { IsWord doc.now.head.den }
+    ensures comment { length doc.now.head.comment < 256 }
+    ensures tall { IsWord doc.now.tail.tall }
+    ensures wide { IsWord doc.now.tail.wide }
+{
+    let _ = doc.head();
+    let _ = doc.tail();
 }
 
 /// How long the copy of a page is.
@@ -63,6 +89,7 @@ fn measure_page(
     requires fonts { measured.fonts_of measure.old ≡ fonts.now }
     ensures bytes { IfOk result (λ n. n ≡ counted 0 (page_length fonts.now (copy_page walker.old.grid fonts.now doc.now page))) }
     ensures ready { OnOk result (IsReady walker.old.grid fonts.now doc.now page) }
+    ensures put { OnOk result (IsPutAt walker.old.grid fonts.now doc.now page) }
     ensures steps { OnOk result (walker.new.steps ≡ walker.old.steps + count fonts.now most_nested (page_of doc.now page)) }
     ensures cause { IfErr result (IsCauseAt walker.old.grid fonts.now doc.now page) }
     ensures many { IfErr result (IsMany (walker.old.steps + count fonts.now most_nested (page_of doc.now page))) }
@@ -71,6 +98,7 @@ fn measure_page(
 {
     one_document();
     pages_by_place();
+    painted_rules();
     let _ = counts(&doc.pages()[page]);
     measure.begin_page();
     match walker.page(doc, page, fonts, measure) {
@@ -91,6 +119,7 @@ fn measure_pages(
     requires covered { AllByRecursion (IsCovered fonts.now doc.now) pages.now }
     ensures bytes { IfOk result (λ n. n ≡ counted 0 (pages_length fonts.now (copy_pages walker.old.grid fonts.now doc.now pages.now))) }
     ensures ready { OnOk result (AllByRecursion (IsReady walker.old.grid fonts.now doc.now) pages.now) }
+    ensures put { OnOk result (AllByRecursion (IsPutAt walker.old.grid fonts.now doc.now) pages.now) }
     ensures few { OnOk result (commands_at fonts.now doc.now pages.now ≤ 50000000) }
     ensures cause { IfErr result (IsWalkCause walker.old.grid fonts.now doc.now pages.now) }
     ensures kept { walker.new.grid ≡ walker.old.grid }
@@ -329,9 +358,11 @@ pub fn copy<T: Tray>(
     ensures copied { OnOk result (Copied (text_of name.now) (copy_of walker.old.grid fonts.now doc.now pages.now mag) (T.seen tray.old) (T.seen tray.new)) }
     ensures ready { OnOk result (AllByRecursion (IsReady walker.old.grid fonts.now doc.now) pages.now) }
     ensures short { OnOk result (length (copy_of walker.old.grid fonts.now doc.now pages.now mag) < 2 ^ 31) }
+    ensures made { WhereBegun (IsMade walker.old.grid fonts.now doc.now pages.now mag) result }
     ensures fails { IfErr result (CopyFails walker.old.grid fonts.now doc.now pages.now (text_of name.now) (copy_of walker.old.grid fonts.now doc.now pages.now mag) (T.seen tray.old) (T.seen tray.new)) }
     ensures later { (T.seen tray.old).faults ≤ (T.seen tray.new).faults }
 {
+    numbers_fit(doc);
     let bytes = match measure_pages(doc, fonts, walker, pages) {
         Ok(bytes) => bytes,
         Err(fault) => return Err(CopyFault::Walk(fault)),

@@ -1,5 +1,6 @@
 //! What stands before the pages of a copy, and the definitions that stand behind them again.
 ghost use Rattle.std.specs.Prelude.{◌≡◌, ◌<◌, ◌≤◌, ◌+◌, ◌++◌, ◌∷◌, [], IfOk, OnOk, length, drop, vec_len};
+ghost use Rattle.std.specs.List.{AllByRecursion};
 ghost use Rattle.dvi_ops.specs.Command.Command.{FntDef, Pre};
 ghost use Rattle.dvi_ops.specs.View.{view};
 ghost use Rattle.dvi_doc.specs.View.{IsRead};
@@ -11,6 +12,7 @@ ghost use Rattle.dvicopy_out.specs.Numbered as numbered;
 ghost use Rattle.dvicopy_out.specs.Numbered.{definition, definitions, number_of, put_definition};
 ghost use Rattle.dvicopy_out.specs.Spelled.{spelled};
 ghost use Rattle.dvicopy_out.specs.Tables.{IsTable};
+ghost use Rattle.dvicopy_out.specs.Writable.{IsPutFont, IsPutKey};
 
 use crate::numbers::{Numbers, id_at, is_real};
 use crate::script::Script;
@@ -47,6 +49,18 @@ fn define(script: &mut Script, key: &FontKey, number: u32)
     }));
 }
 
+/// The key of a font, which can be spelled.
+fn sound_key(fonts: &Fonts, id: FontId) -> &FontKey
+    requires given { id < length fonts.now.fonts }
+    ensures value { key_of result.now ≡ key_at fonts.now id }
+    ensures key { IsKey (key_of result.now) }
+    ensures sound { IsPutKey (key_at fonts.now id) }
+{
+    let key = fonts.key(id);
+    let _checksum = key.checksum;
+    key
+}
+
 /// Appends the definition of a font, where it is real and loaded.
 fn append_definition(
     bytes: &mut Vec<u8>,
@@ -57,10 +71,12 @@ fn append_definition(
 ) -> Result<(), AllocError>
     requires given { id < length fonts.now.fonts }
     requires table { IsTable fonts.now numbers.now }
-    ensures { OnOk result (bytes.new.items ≡ bytes.old.items ++ spelled (put_definition (number_of fonts.now id) (key_at fonts.now id) (numbered.is_real (state_at fonts.now id)) [])) }
+    ensures key { IsPutKey (key_at fonts.now id) }
+    ensures bytes { OnOk result (bytes.new.items ≡ bytes.old.items ++ spelled (put_definition (number_of fonts.now id) (key_at fonts.now id) (numbered.is_real (state_at fonts.now id)) [])) }
 {
+    let key = sound_key(fonts, id);
     if is_real(fonts, id) {
-        define(script, fonts.key(id), numbers.of(id));
+        define(script, key, numbers.of(id));
         bytes.extend_from_slice(script.as_slice())?;
     }
     Ok(())
@@ -72,7 +88,9 @@ fn append_definitions(
     fonts: &Fonts,
     script: &mut Script,
 ) -> Result<(), AllocError>
-    ensures { OnOk result (bytes.new.items ≡ bytes.old.items ++ spelled (definitions fonts.now)) }
+    ensures bytes { OnOk result (bytes.new.items ≡ bytes.old.items ++ spelled (definitions fonts.now)) }
+    ensures few { length fonts.now.fonts ≤ 1000 }
+    ensures keys { OnOk result (AllByRecursion IsPutFont fonts.now.fonts) }
 {
     let numbers = Numbers::new(fonts);
     fonts.bitmaps_are_rows();
@@ -112,6 +130,8 @@ impl Front {
     pub fn new(alloc: Global, doc: &Doc<'_>, fonts: &Fonts, mag: i32) -> Result<Front, AllocError>
         ensures bytes { IfOk result (λ front. bytes_of front ≡ spelled (Pre (preamble doc.now.head mag) ∷ definitions fonts.now)) }
         ensures definitions { IfOk result (λ front. definitions_of front ≡ spelled (definitions fonts.now)) }
+        ensures few { OnOk result (length fonts.now.fonts ≤ 1000) }
+        ensures keys { OnOk result (AllByRecursion IsPutFont fonts.now.fonts) }
     {
         let mut script = Script::new();
         let mut bytes = Vec::new(alloc);

@@ -21,5 +21,11 @@ mod writer;
 
 pub use copying::copy;
 pub use fault::CopyFault;
-pub use laws::{copies_are_documents, copies_define_real_fonts, copies_keep_pages};
+pub use laws::{
+    copies_are_documents, copies_define_real_fonts, copies_keep_marks, copies_keep_pages,
+    cuts_hold_first_pages,
+};
 pub use measure::Measure;
+
+#[cfg(test)]
+mod tests;

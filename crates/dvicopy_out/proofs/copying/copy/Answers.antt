@@ -1,4 +1,4 @@
-use Rattle.std.proofs.Common.{rules, w32, ◌≡◌, ◌<◌, ◌≤◌, ◌+◌, ◌-◌, ◌^◌, ℕ, List, arith, subst, sym, ap, ◌∙◌, length, inl, inr}
+use Rattle.std.proofs.Common.{rules, w32, ◌≡◌, ◌<◌, ◌≤◌, ◌+◌, ◌-◌, ◌^◌, ℕ, List, arith, subst, sym, ap, ◌∙◌, length, inr}
 use Rattle.std.specs.Prelude.{FitsSigned}
 use Rattle.std.proofs.lemmas.Int.{to_z-of_z}
 use Rattle.dv_base.specs.Tray.{Appends, AppendsFront, Seen, WhereTold}
@@ -10,6 +10,7 @@ use Rattle.dvicopy_out.specs.Numbered.{definitions}
 use Rattle.dvicopy_out.specs.Pages.{copy_pages}
 use Rattle.dvicopy_out.specs.Spelled.{spelled}
 use Rattle.dvicopy_out.proofs.Ending.{copied_front, copied_whole, is_long, is_short, untouched}
+use Rattle.dvicopy_out.proofs.Making.{made}
 use Rattle.dvicopy_out.proofs.Rows.{all_ten}
 use Rattle.dvicopy_out.proofs.copying.copy.Goals as goal
 
@@ -124,3 +125,42 @@ returns-clause-fails g c =
       inr (subst (λ (n : List ℕ). CopiedFront n text x z) c.as_str.ensures.value
           (copied_front c.as_str.result.now text x y z gives.0 gives.1 gives.2 c.in-Ready.ensures.messages front1 c.in-Err-write_output.ensures.keeps)),
     )
+
+pub returns-in-Failed-clause-made : goal.returns-in-Failed-clause-made
+returns-in-Failed-clause-made g c =
+    let set = c.args.fonts.now in
+    let mag = c.args.mag in
+    let w : Work = work_of c.args.doc.now set mag in
+    let hm : FitsSigned w32 mag = search rules in
+    let front = simp (to_z-of_z w32 mag hm) at c.in-Ok-new.ensures.bytes in
+    let defs = c.in-Ok-new.ensures.definitions in
+    let around : c.around.result ≡ length (spelled (front_commands w)) + length (spelled (definitions set)) = c.around.ensures ∙ (λ i. length (front i) + length (defs i)) in
+    made c.args.walker.now.grid set c.args.doc.now c.args.pages.now mag c.in-Ok.bytes c.around.result c.in-Ok.ensures.ready c.in-Ok.ensures.few c.in-Ok.ensures.put
+    (record { num = c.numbers_fit.ensures.num; den = c.numbers_fit.ensures.den; comment = c.numbers_fit.ensures.comment; tall = c.numbers_fit.ensures.tall; wide = c.numbers_fit.ensures.wide })
+    hm c.in-Ok-new.ensures.few c.in-Ok-new.ensures.keys c.in-Ok.ensures.bytes around c.if-is_too_long.ensures
+
+pub returns-in-Ok-write_output-clause-made : goal.returns-in-Ok-write_output-clause-made
+returns-in-Ok-write_output-clause-made g c =
+    let set = c.args.fonts.now in
+    let mag = c.args.mag in
+    let w : Work = work_of c.args.doc.now set mag in
+    let hm : FitsSigned w32 mag = search rules in
+    let front = simp (to_z-of_z w32 mag hm) at c.in-Ok-new.ensures.bytes in
+    let defs = c.in-Ok-new.ensures.definitions in
+    let around : c.around.result ≡ length (spelled (front_commands w)) + length (spelled (definitions set)) = c.around.ensures ∙ (λ i. length (front i) + length (defs i)) in
+    made c.args.walker.now.grid set c.args.doc.now c.args.pages.now mag c.in-Ok.bytes c.around.result c.in-Ok.ensures.ready c.in-Ok.ensures.few c.in-Ok.ensures.put
+    (record { num = c.numbers_fit.ensures.num; den = c.numbers_fit.ensures.den; comment = c.numbers_fit.ensures.comment; tall = c.numbers_fit.ensures.tall; wide = c.numbers_fit.ensures.wide })
+    hm c.in-Ok-new.ensures.few c.in-Ok-new.ensures.keys c.in-Ok.ensures.bytes around c.if-is_too_long.ensures
+
+pub returns-clause-made : goal.returns-clause-made
+returns-clause-made g c =
+    let set = c.args.fonts.now in
+    let mag = c.args.mag in
+    let w : Work = work_of c.args.doc.now set mag in
+    let hm : FitsSigned w32 mag = search rules in
+    let front = simp (to_z-of_z w32 mag hm) at c.in-Ok-new.ensures.bytes in
+    let defs = c.in-Ok-new.ensures.definitions in
+    let around : c.around.result ≡ length (spelled (front_commands w)) + length (spelled (definitions set)) = c.around.ensures ∙ (λ i. length (front i) + length (defs i)) in
+    made c.args.walker.now.grid set c.args.doc.now c.args.pages.now mag c.in-Ok.bytes c.around.result c.in-Ok.ensures.ready c.in-Ok.ensures.few c.in-Ok.ensures.put
+    (record { num = c.numbers_fit.ensures.num; den = c.numbers_fit.ensures.den; comment = c.numbers_fit.ensures.comment; tall = c.numbers_fit.ensures.tall; wide = c.numbers_fit.ensures.wide })
+    hm c.in-Ok-new.ensures.few c.in-Ok-new.ensures.keys c.in-Ok.ensures.bytes around c.if-is_too_long.ensures

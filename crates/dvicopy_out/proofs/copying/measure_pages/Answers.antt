@@ -1,9 +1,8 @@
-use Rattle.std.proofs.Common.{rules, ◌≡◌, ◌<◌, ◌≤◌, ◌+◌, ◌^◌, ℕ, List, arith, subst, sym, ap, ◌∙◌, length, take}
-use Rattle.std.specs.List.{AllByRecursion, Contains}
+use Rattle.std.proofs.Common.{arith, ◌∙◌}
 use Rattle.std.proofs.lemmas.List.{take_all}
 use Rattle.std.proofs.lemmas.List.Elements.{Contains-get_or}
-use Rattle.vf_expand.specs.Grid.{Grid}
-use Rattle.dvicopy_out.specs.Pages.{IsCauseAt, IsCovered, IsReady}
+use Rattle.dvicopy_out.specs.Made.{IsPutAt}
+use Rattle.dvicopy_out.specs.Pages.{IsCovered, IsReady}
 use Rattle.dvicopy_out.proofs.Rows.{commands_more, commands_room, each_at, each_more, lengths_more, many_of}
 use Rattle.dvicopy_out.proofs.copying.measure_pages.Goals as goal
 
@@ -35,6 +34,7 @@ loop-page-preserved c =
     record {
       bytes = omega (arith, inv.bytes, bytes, c.saturating_add-bytes.ensures, lengths_more c.args.walker.now.grid set r ks i c.loop-page-test.true);
       ready = each_more (IsReady c.args.walker.now.grid set r) ks i c.loop-page-test.true inv.ready (rw inv.kept at step.ready);
+      put = each_more (IsPutAt c.args.walker.now.grid set r) ks i c.loop-page-test.true inv.put (rw inv.kept at step.put);
       steps = step.steps ∙ omega (arith, inv.steps, commands_more set r ks i c.loop-page-test.true);
       kept = c.measure_page.ensures.kept ∙ inv.kept;
       same = step.same;
@@ -50,3 +50,6 @@ pub returns-clause-few : goal.returns-clause-few
 returns-clause-few c =
     let steps = rw (take_all c.loop-page.page-index c.args.pages.now c.loop-page-test.false) at c.loop-page.invariant.steps in
     omega (arith, steps, c.steps.ensures.few, c.steps.ensures.value)
+
+pub returns-clause-put : goal.returns-clause-put
+returns-clause-put c = rw (take_all c.loop-page.page-index c.args.pages.now c.loop-page-test.false) at c.loop-page.invariant.put

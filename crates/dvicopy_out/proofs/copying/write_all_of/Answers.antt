@@ -1,4 +1,4 @@
-use Rattle.std.proofs.Common.{rules, ◌≡◌, ◌<◌, ◌≤◌, ◌+◌, ◌^◌, ◌++◌, [], ℕ, ℤ, pos, negsuc, unsigned_abs, w32, List, arith, refl, subst, sym, ap, ◌∙◌, length, length-append}
+use Rattle.std.proofs.Common.{rules, ◌≡◌, ◌<◌, ◌+◌, ◌^◌, ◌++◌, ℕ, ℤ, negsuc, unsigned_abs, w32, List, arith, subst, sym, ap, ◌∙◌, length, length-append}
 use Rattle.std.proofs.lemmas.List.{length-map}
 use Rattle.std.specs.Prelude.{FitsSigned}
 use Rattle.std.proofs.lemmas.Int.{to_z-of_z}
@@ -9,7 +9,7 @@ use Rattle.dvicopy_out.specs.Numbered.{definitions}
 use Rattle.dvicopy_out.specs.Leaves.{work_of}
 use Rattle.dvicopy_out.specs.Pages.{copy_page, copy_pages}
 use Rattle.dvicopy_out.specs.Sent.{Cut, Sends, Sent, cut_sends}
-use Rattle.dvicopy_out.specs.Shown.{fonts_of, holds_more, last_of, out_of, place_of}
+use Rattle.dvicopy_out.specs.Shown.{fonts_of, last_of, out_of, place_of}
 use Rattle.dvicopy_out.proofs.Rows.{last_within}
 use Rattle.dvicopy_out.proofs.Sending.{first_cut, second_cut, third_cut, whole_sends}
 use Rattle.dvicopy_out.proofs.Walked.{begin_there}

@@ -1,16 +1,16 @@
-use Rattle.std.proofs.Common.{rules, w32, w64, unsigned_abs, ◌<◌, ◌^◌, ◌≡◌, ◌+◌, ◌%◌, ◌++◌, ℕ, ℤ, List, arith, subst, sym, ap, ◌∙◌, length, length-append}
+use Rattle.std.proofs.Common.{rules, w32, w64, unsigned_abs, ◌<◌, ◌^◌, ◌≡◌, ◌%◌, ◌++◌, ℕ, ℤ, List, subst, sym, ◌∙◌, length}
 use Rattle.std.specs.Prelude.{FitsSigned, OnOk}
 use Rattle.std.proofs.lemmas.Int.{to_z-of_z, fits_signed_from_abs}
-use Rattle.dvi_ops.specs.Command.{Command, Preamble, Postamble}
+use Rattle.dvi_ops.specs.Command.{Command, Postamble}
 use Rattle.dvi_ops.specs.Command.Command.{Post, PostPost}
 use Rattle.dvi_ops.specs.Shortest.{shortest}
 use Rattle.dvicopy_out.specs.Spelled.{spelled}
-use Rattle.dvicopy_out.specs.Copies.{Work, back_commands, postamble}
+use Rattle.dvicopy_out.specs.Copies.{Work, postamble}
 use Rattle.dvicopy_out.specs.Counted.{counted}
 use Rattle.dvicopy_out.specs.Leaves.{work_of}
 use Rattle.dvicopy_out.specs.Numbered.{definitions}
 use Rattle.dvicopy_out.specs.Sent.{Cut, Sends, Sent, cut_later, cut_longer, cut_sends, then_sends}
-use Rattle.dvicopy_out.specs.Shown.{fonts_of, holds_more, last_of, out_of, place_of}
+use Rattle.dvicopy_out.specs.Shown.{fonts_of, last_of, out_of, place_of}
 use Rattle.dvicopy_out.proofs.Paging.{back_is}
 use Rattle.dvicopy_out.proofs.Takes.{placed_three}
 use Rattle.dvicopy_out.proofs.Walked.{begin_there}

@@ -1,4 +1,4 @@
-use Rattle.std.proofs.Common.{rules, ◌≡◌, ◌++◌, [], ℕ, List, take, ap, ◌∙◌, subst, sym, refl}
+use Rattle.std.proofs.Common.{[], subst}
 use Rattle.std.proofs.lemmas.List.{append-nil}
 use Rattle.dvicopy_out.specs.Copies.{filling}
 use Rattle.dvicopy_out.specs.Sent.{Cut, Sends, Sent, cut_sends, then_sends}

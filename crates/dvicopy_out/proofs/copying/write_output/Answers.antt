@@ -1,10 +1,10 @@
-use Rattle.std.proofs.Common.{rules, w32, ◌≡◌, [], List, ℕ, refl, sym, ap, subst, ◌∙◌}
+use Rattle.std.proofs.Common.{rules, w32, ◌≡◌, [], List, ℕ, sym, ap, subst, ◌∙◌}
 use Rattle.std.specs.Prelude.{FitsSigned, OnOk, OnErr}
 use Rattle.dv_base.specs.Causes.{Rose}
 use Rattle.dv_base.specs.Tray.{Appends, AppendsFront, KeepsNames, Seen, WhereTold}
 use Rattle.std.proofs.lemmas.Int.{to_z-of_z}
 use Rattle.dvicopy_out.specs.Leaves.{copy_of}
-use Rattle.dvicopy_out.specs.Sent.{Out, Sends}
+use Rattle.dvicopy_out.specs.Sent.{Out}
 use Rattle.dvicopy_out.specs.Shown.{out_of}
 use Rattle.dvicopy_out.proofs.Sending.{output_all, output_front, output_keeps, output_rose}
 use Rattle.dvicopy_out.proofs.copying.write_output.Goals as goal

@@ -1,17 +1,14 @@
-use Rattle.std.proofs.Common.{rules, ◌≡◌, ◌+◌, ◌<◌, ◌≤◌, ◌^◌, ◌++◌, ◌∷◌, [], ℕ, List, ℤ, arith, subst, sym, ap, ◌∙◌, length, length-append}
+use Rattle.std.proofs.Common.{◌≡◌, ◌∷◌, [], List, ℤ, arith, subst, sym, ◌∙◌, length}
 use Rattle.font_set.specs.Fonts.{FontSet}
-use Rattle.dvi_ops.specs.Command.Command.{Bop, Eop}
-use Rattle.vf_expand.specs.Causes.{IsMany}
-use Rattle.vf_expand.specs.Takes.{RefusesNext}
-use Rattle.vf_expand.proofs.Later.{no_stop}
+use Rattle.dvi_ops.specs.Command.Command.{Bop}
 use Rattle.dvicopy_out.specs.Measured.{IsTakeable}
 use Rattle.dvicopy_out.specs.Counted.{counted}
 use Rattle.dvicopy_out.specs.Spelled.{spelled}
 use Rattle.dvicopy_out.specs.Sent.{Cut, Sent, cut_sends}
-use Rattle.dvicopy_out.specs.Shown.{Holds, fonts_of, holds_more, last_of, out_of, pen_of, place_of}
+use Rattle.dvicopy_out.specs.Shown.{holds_more, last_of, out_of, place_of}
 use Rattle.dvicopy_out.specs.Taken.{Took, Refused}
 use Rattle.dvicopy_out.specs.Pages.{copy_page}
-use Rattle.dvicopy_out.proofs.Walked.{begin_cut, begin_there, count_here, counts_here, outcome_here, page_cut, page_here, page_placed, page_sent, refused_here, shallow_page, stopped, takeable, took_here, took_is}
+use Rattle.dvicopy_out.proofs.Walked.{begin_cut, begin_there, count_here, counts_here, outcome_here, page_cut, page_here, page_placed, page_sent, refused_here, stopped, takeable, took_here, took_is}
 use Rattle.dvicopy_out.proofs.copying.write_page.Goals as goal
 
 pub returns-in_err-begin_page-clause-sends : goal.returns-in_err-begin_page-clause-sends

@@ -1,14 +1,12 @@
-use Rattle.std.proofs.Common.{rules, ◌≡◌, ◌<◌, ◌≤◌, ◌+◌, ◌^◌, ◌++◌, [], ℕ, ℤ, pos, negsuc, unsigned_abs, List, arith, refl, subst, sym, ap, ◌∙◌, length, take, length-append}
-use Rattle.std.specs.List.{AllByRecursion}
+use Rattle.std.proofs.Common.{rules, ◌<◌, ◌+◌, ◌^◌, ◌++◌, ℕ, ℤ, pos, negsuc, unsigned_abs, List, arith, refl, subst, sym, ap, ◌∙◌, length, take, length-append}
 use Rattle.std.specs.Prelude.{slice_index}
 use Rattle.std.proofs.lemmas.List.{take_all}
-use Rattle.font_set.specs.Fonts.{FontSet}
 use Rattle.vf_expand.specs.Grid.{Grid}
 use Rattle.dvicopy_out.specs.Spelled.{spelled}
-use Rattle.dvicopy_out.specs.Copies.{last_bop, page_commands, pages_bytes}
+use Rattle.dvicopy_out.specs.Copies.{page_commands, pages_bytes}
 use Rattle.dvicopy_out.specs.Pages.{IsCovered, IsReady, copy_page, copy_pages}
 use Rattle.dvicopy_out.specs.Sent.{Cut, Sent, cut_later, cut_longer, cut_sends, sent_more, sent_nothing}
-use Rattle.dvicopy_out.specs.Shown.{Holds, fonts_of, holds_more, last_of, out_of, place_of}
+use Rattle.dvicopy_out.specs.Shown.{holds_more, last_of, out_of, place_of}
 use Rattle.dvicopy_out.proofs.Walked.{begin_there}
 use Rattle.dvicopy_out.proofs.Rows.{commands_more, commands_room, each_at, last_within, next_last, next_text, pages_rest, pages_room}
 use Rattle.dvicopy_out.proofs.copying.write_pages.Goals as goal

@@ -1,4 +1,4 @@
-use Rattle.std.proofs.Common.{◌≡◌, ◌+◌, ◌<◌, take, length, negsuc}
+use Rattle.std.proofs.Common.{◌≡◌, ◌+◌, take, length, negsuc}
 use Rattle.dvicopy_out.specs.Copies.{last_bop, pages_bytes}
 use Rattle.dvicopy_out.specs.Pages.{commands_at, copy_pages}
 use Rattle.dvicopy_out.specs.Sent.{Sent}

@@ -1,7 +1,5 @@
-use Rattle.std.proofs.Common.{rules, ◌≡◌, ◌<◌, ◌++◌, ℕ, arith, subst, length}
-use Rattle.font_set.specs.Fonts.{key_at, state_at}
-use Rattle.dvicopy_out.specs.Numbered.{is_real, number_of, put_definition}
-use Rattle.dvicopy_out.specs.Spelled.{spelled}
+use Rattle.std.proofs.Common.{◌<◌, arith, length}
+use Rattle.dvicopy_out.proofs.Making.{put_key, put_more}
 use Rattle.dvicopy_out.proofs.Numbering.{definitions_sent}
 use Rattle.dvicopy_out.proofs.front.append_definitions.Goals as goal
 
@@ -12,5 +10,6 @@ loop-place-preserved c =
     let within : k < length set.fonts = omega (arith, c.loop-place-test.true, c.count-place-end.ensures.value) in
     record {
       bytes = definitions_sent set k c.args.bytes.now.items c.loop-place.bytes.items c.append_definition.new.bytes.items within c.loop-place.invariant.bytes
-          (rw c.id_at.ensures at c.in_ok-append_definition.ensures);
+          (rw c.id_at.ensures at c.in_ok-append_definition.ensures.bytes);
+      keys = put_more set.fonts k within c.loop-place.invariant.keys (put_key set k (rw c.id_at.ensures at c.append_definition.ensures.key));
     }

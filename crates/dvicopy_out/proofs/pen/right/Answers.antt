@@ -1,4 +1,4 @@
-use Rattle.std.proofs.Common.{rules, ◌≡◌, ◌<◌, ◌^◌, ◌-ℤ◌, unsigned_abs, w64, arith}
+use Rattle.std.proofs.Common.{rules, ◌<◌, ◌^◌, ◌-ℤ◌, unsigned_abs, w64, arith}
 use Rattle.std.specs.Prelude.{FitsSigned}
 use Rattle.std.proofs.lemmas.Int.{to_z-of_z, fits_signed_from_abs}
 use Rattle.dvi_ops.specs.Command.Command.{Right}

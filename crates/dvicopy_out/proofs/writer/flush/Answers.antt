@@ -1,4 +1,4 @@
-use Rattle.std.proofs.Common.{[], sym, ap, subst, refl, rules}
+use Rattle.std.proofs.Common.{[], sym, subst, rules}
 use Rattle.std.proofs.lemmas.List.{append-nil}
 use Rattle.dv_base.specs.Tray.{Appends, AppendsFront, WhereTold}
 use Rattle.dvicopy_out.specs.Sent.{Out, cut_sends}

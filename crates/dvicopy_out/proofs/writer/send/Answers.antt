@@ -1,5 +1,5 @@
-use Rattle.std.proofs.Common.{[], rules, refl}
-use Rattle.dvicopy_out.specs.Sent.{Out, cut_sends, cut_longer, then_sends, sent_more}
+use Rattle.std.proofs.Common.{[]}
+use Rattle.dvicopy_out.specs.Sent.{Out, cut_sends, cut_longer, then_sends}
 use Rattle.dvicopy_out.proofs.Sending.{all_sends, sent_waits}
 use Rattle.dvicopy_out.proofs.writer.send.Goals as goal
 

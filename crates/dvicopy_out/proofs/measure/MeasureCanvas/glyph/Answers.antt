@@ -1,4 +1,4 @@
-use Rattle.std.proofs.Common.{rules, ◌≡◌, ℕ, List, arith, ap, ◌∙◌, refl, length}
+use Rattle.std.proofs.Common.{◌≡◌, ℕ, List, arith, ap, ◌∙◌, refl, length}
 use Rattle.positions.specs.MarkOf.{glyph_of}
 use Rattle.dvicopy_out.specs.Spelled.{spelled}
 use Rattle.dvicopy_out.specs.Marked.{glyph_commands, glyph_pen}

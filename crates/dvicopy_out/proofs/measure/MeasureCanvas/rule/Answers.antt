@@ -1,4 +1,4 @@
-use Rattle.std.proofs.Common.{rules, ◌≡◌, ℕ, List, arith, ap, ◌∙◌, refl, length}
+use Rattle.std.proofs.Common.{ℕ, List, arith, ap, refl, length}
 use Rattle.positions.specs.MarkOf.{rule_of}
 use Rattle.dvicopy_out.proofs.Takes.{one_measured}
 use Rattle.dvicopy_out.proofs.measure.MeasureCanvas.rule.Goals as goal

@@ -1,4 +1,4 @@
-use Rattle.std.proofs.Common.{rules, ◌≡◌, ◌++◌, ℕ, List, arith, ap, ◌∙◌, refl, length, length-append}
+use Rattle.std.proofs.Common.{◌++◌, ℕ, List, arith, ap, refl, length, length-append}
 use Rattle.positions.specs.MarkOf.{special_of}
 use Rattle.dvicopy_out.specs.Measured.{pen_of}
 use Rattle.dvicopy_out.proofs.Spelling.{a_special}

@@ -1,7 +1,7 @@
-use Rattle.std.proofs.Common.{rules, ◌≡◌, ◌<◌, ◌^◌, ◌++◌, ◌-ℤ◌, ap, ◌∙◌, subst, unsigned_abs, w64, arith}
+use Rattle.std.proofs.Common.{rules, ◌≡◌, ◌++◌, ◌-ℤ◌, ap, ◌∙◌, subst, w64}
 use Rattle.std.specs.Prelude.{FitsSigned}
-use Rattle.std.proofs.lemmas.Int.{to_z-of_z, fits_signed_from_abs}
-use Rattle.dvi_ops.specs.Command.Command.{Right, Down}
+use Rattle.std.proofs.lemmas.Int.{to_z-of_z}
+use Rattle.dvi_ops.specs.Command.Command.{Right}
 use Rattle.dvicopy_out.specs.Spelled.{spelled}
 use Rattle.dvicopy_out.specs.Moves.{moves}
 use Rattle.dvicopy_out.specs.Marked.{Pen, way}

@@ -1,4 +1,4 @@
-use Rattle.std.proofs.Common.{rules, ◌≡◌, ℕ, List, ap, ◌∙◌, refl}
+use Rattle.std.proofs.Common.{◌∙◌}
 use Rattle.positions.specs.MarkOf.{rule_of}
 use Rattle.dvicopy_out.specs.Shown.{Holds}
 use Rattle.dvicopy_out.proofs.Takes.{one_taken, one_refused}

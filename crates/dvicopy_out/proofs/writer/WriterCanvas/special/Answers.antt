@@ -1,7 +1,6 @@
-use Rattle.std.proofs.Common.{rules, ◌≡◌, ◌++◌, ℕ, List, ap, ◌∙◌, refl}
-use Rattle.std.specs.Prelude.{IfErr}
+use Rattle.std.proofs.Common.{◌++◌, ◌∙◌}
 use Rattle.positions.specs.MarkOf.{special_of}
-use Rattle.dvicopy_out.specs.Sent.{Sends, cut_longer, cut_sends, then_sends}
+use Rattle.dvicopy_out.specs.Sent.{cut_longer, cut_sends, then_sends}
 use Rattle.dvicopy_out.specs.Shown.{Holds, holds_more, out_of, pen_of, place_of}
 use Rattle.dvicopy_out.proofs.Spelling.{a_special}
 use Rattle.dvicopy_out.proofs.Takes.{one_taken, one_refused, placed_both}
