@@ -1,0 +1,10 @@
+pub mod Gathering
+pub mod Pieces
+pub mod Texting
+pub mod Runs
+pub mod Selecting
+pub mod Widening
+pub mod Turning
+pub mod Going
+pub mod Paged
+pub mod Ending

@@ -1,0 +1,11 @@
+pub mod Texts
+pub mod Standing
+pub mod Turns
+pub mod Listing
+pub mod Widths
+pub mod Causes
+pub mod Faults
+pub mod Gathered
+pub mod Leaves
+pub mod Space
+pub mod Kept
