@@ -105,24 +105,24 @@ visible_name word name h =
 
 -- ---- drafts
 
-abbrev IsVisible : Option (List ℕ) → Type 0
+abbrev pub IsVisible : Option (List ℕ) → Type 0
 IsVisible None = Unit {0}
 IsVisible (Some name) = list_all is_visible name ≡ true
 
-abbrev IsIn : ℕ → ℕ → Option ℕ → Type 0
+abbrev pub IsIn : ℕ → ℕ → Option ℕ → Type 0
 IsIn low high None = Unit {0}
 IsIn low high (Some n) = (low ≤ n) × (n ≤ high)
 
-abbrev IsSmall : Option (ℤ × ℤ) → Type 0
+abbrev pub IsSmall : Option (ℤ × ℤ) → Type 0
 IsSmall None = Unit {0}
 IsSmall (Some size) = (unsigned_abs size.0 < 2 ^ 31) × (unsigned_abs size.1 < 2 ^ 31)
 
-abbrev GoodDraft : Draft → Type 0
+abbrev pub GoodDraft : Draft → Type 0
 GoodDraft d =
     IsVisible d.input × IsIn 10 10000 d.across × IsIn 10 10000 d.down × IsIn 10 100000 d.magnification × (d.drift ≤ 1000) × (1 ≤ d.copies) × (d.copies ≤ 999) × (1 ≤ d.collated) × IsIn 1 1000000 d.per_section
     × (unsigned_abs d.offset.0 < 2 ^ 31) × (unsigned_abs d.offset.1 < 2 ^ 31) × IsSmall d.paper
 
-first_draft : GoodDraft no_draft
+pub first_draft : GoodDraft no_draft
 first_draft = (tt, tt, tt, tt, omega arith, omega arith, omega arith, omega arith, tt, omega arith, omega arith, tt)
 
 small_if : (b : Bool) (x y : Option (ℤ × ℤ)) → IsSmall x → IsSmall y → IsSmall (if b then x else y)
@@ -222,7 +222,7 @@ good_name tool (Some x) d e word g h = good_second tool d.output d e (name_of wo
 named : (tool : Tool) (word : List ℕ) (d e : Draft) → GoodDraft d → takes_name tool word d ≡ Some e → GoodDraft e
 named tool word d e g h = good_name tool d.input d e word g h
 
-good_reads : (tool : Tool) {words : List (List ℕ)} {d e : Draft} → Reads (grammar tool) words d e → GoodDraft d → GoodDraft e
+pub good_reads : (tool : Tool) {words : List (List ℕ)} {d e : Draft} → Reads (grammar tool) words d e → GoodDraft d → GoodDraft e
 good_reads tool nothing g = g
 good_reads tool (Reads.name {word = word} {d = d} {e = e} plain takes more) g = good_reads tool more (named tool word d e g takes)
 good_reads tool (together {d = d} front parameter change among joined same stands read more) g = good_reads tool more (good_change d g parameter change front.option read)

@@ -139,11 +139,6 @@ taken_all a b marks h t =
           t.exactly id code inside small ∙ ap (λ (x : Bool). x || used_in marks id code) (h.exactly id code inside small);
     }
 
--- what takes a page keeps its fonts
-pub took_fonts : (a b : Used) (o : Outcome) → TookPage Takes a b o → b.fonts ≡ a.fonts
-took_fonts a b None h = absurd h
-took_fonts a b (Some r) h = h.same.fonts
-
 pub took_same : (a b : Used) (o : Outcome) → TookPage Takes a b o → SameFonts a b
 took_same a b None h = absurd h
 took_same a b (Some r) h = h.same

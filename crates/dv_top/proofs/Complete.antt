@@ -25,9 +25,10 @@ use Rattle.font_set.specs.declared.fault.FontFault.{FontFault}
 use Rattle.font_set.specs.declared.fault.FontFault.TheVariants as font
 use Rattle.font_set.specs.declared.fault.LoadFault.{LoadFault}
 use Rattle.font_set.specs.declared.fault.LoadFault.TheVariants as load
+use Rattle.font_set.specs.declared.want.Want.TheVariants as wants
 use Rattle.vf_expand.specs.Page.{IsShallowPage, pages_count}
 use Rattle.sections.specs.Cost.{marks_cost}
-use Rattle.dv_top.specs.Completeness.{IsComplete, IsDoneOrRefused, IsHeldWithin, Plain, Serve, headers_with, marks_with}
+use Rattle.dv_top.specs.Completeness.{IsDoneOrRefused, IsHeldWithin, Plain, PrintsAll, Serve, headers_with, marks_with}
 use Rattle.dv_top.specs.Covered.{Covered, Marked, doc_of, set_of}
 use Rattle.dv_top.specs.Each.{Each}
 use Rattle.dv_top.specs.Lines.{SaysLine}
@@ -45,17 +46,17 @@ use Rattle.dv_top.specs.declared.outcome.Outcome.{Outcome}
 use Rattle.dv_top.specs.declared.outcome.Outcome.TheVariants as outcome
 use Rattle.dv_top.proofs.Lists.{each_at, same_some}
 use Rattle.dv_top.proofs.Said.{line_faults}
-use Rattle.dv_top.proofs.Served.{all_light, no_load, no_stop, same_headers}
+use Rattle.dv_top.proofs.Served.{all_light, no_load, no_stop, same_headers, serving}
 
 -- ---- words
 
-not_wrong : (words : List (List ℕ)) (index : ℕ) → Accepted words → (index < length words) × (((rest : List (List ℕ)) × Accepted (take (index + 1) words ++ rest)) → ⊥) ⊎ (index ≡ length words) × (Accepted words → ⊥) → ⊥
+pub not_wrong : (words : List (List ℕ)) (index : ℕ) → Accepted words → (index < length words) × (((rest : List (List ℕ)) × Accepted (take (index + 1) words ++ rest)) → ⊥) ⊎ (index ≡ length words) × (Accepted words → ⊥) → ⊥
 not_wrong words index h (inl (inside, none)) = none (drop (index + 1) words, subst Accepted (sym (take-append-drop (index + 1) words)) h)
 not_wrong words index h (inr (ends, none)) = none h
 
 -- ---- files
 
-held_same : (told : Option Contents) (contents : Contents) (name bytes other : List ℕ) → told ≡ Some contents → contents name ≡ Some bytes → WhereHeld told (λ held. held name ≡ Some other) → other ≡ bytes
+pub held_same : (told : Option Contents) (contents : Contents) (name bytes other : List ℕ) → told ≡ Some contents → contents name ≡ Some bytes → WhereHeld told (λ held. held name ≡ Some other) → other ≡ bytes
 held_same told contents name bytes other tells here held =
     let there : contents name ≡ Some other = subst (λ t. WhereHeld t (λ h. h name ≡ Some other)) tells held in
     same_some other bytes (sym there ∙ here)
@@ -72,7 +73,7 @@ held_short told contents name bytes limit tells here few held =
     omega (arith, few, long)
 
 -- a file that is held within its limit is read where the shelf has no fault
-file_read : (told later : Told) (contents : Contents) (name bytes : List ℕ) (limit : ℕ) → told.held ≡ Some contents → contents name ≡ Some bytes → length bytes ≤ limit → (Rose told.faults later.faults → ⊥) → (why : Unread) → UnreadHolds name limit told later why → ⊥
+pub file_read : (told later : Told) (contents : Contents) (name bytes : List ℕ) (limit : ℕ) → told.held ≡ Some contents → contents name ≡ Some bytes → length bytes ≤ limit → (Rose told.faults later.faults → ⊥) → (why : Unread) → UnreadHolds name limit told later why → ⊥
 file_read told later contents name bytes limit tells held few shelf Unread.Absent h = held_some told.held contents name bytes tells held h.1
 file_read told later contents name bytes limit tells held few shelf Unread.Long h = held_short told.held contents name bytes limit tells held few h.1
 file_read told later contents name bytes limit tells held few shelf Unread.Failed h = shelf h
@@ -122,7 +123,7 @@ same_ok (Ok a) x y e f =
     sym l ∙ r
 same_ok (Err b) x y e f = absurd cc
 
-select_done : (doc : Document) (asked : Request) (fault : SelectFault) (o : Outcome) → IsChoice doc asked → IsNoChoice doc asked fault → SelectTells fault o → IsDoneOrRefused o
+pub select_done : (doc : Document) (asked : Request) (fault : SelectFault) (o : Outcome) → IsChoice doc asked → IsNoChoice doc asked fault → SelectTells fault o → IsDoneOrRefused o
 select_done doc asked (select.NoSuchPage number) o choice cause tells = absurd (ok_err (spans_of (numbers_in doc) (wanted_in asked.windows)) choice.spans number choice.are cause)
 select_done doc asked select.TooManyPages o choice cause tells =
     let same : cause.spans ≡ choice.spans = same_ok (spans_of (numbers_in doc) (wanted_in asked.windows)) cause.spans choice.spans cause.are choice.are in
@@ -140,7 +141,7 @@ memory_tells f o e h = by o (subst (λ (x : FontFault). FontTells x o) e h)
     by outcome.OutOfMemory k = tt
     by _ k = absurd k
 
-load_tells : (set : FontSet) (fault : LoadFault) (o : Outcome) → fault ≡ load.Font font.OutOfMemory → LoadTells set fault o → IsDoneOrRefused o
+pub load_tells : (set : FontSet) (fault : LoadFault) (o : Outcome) → fault ≡ load.Font font.OutOfMemory → LoadTells set fault o → IsDoneOrRefused o
 load_tells set fault o e h = memory_tells font.OutOfMemory o refl (subst (λ (x : LoadFault). LoadTells set x o) e h)
 
 -- ---- no reason
@@ -168,7 +169,7 @@ headers_here one law job told plain m =
     let s = m.covered.sources in
     let d = s.selected.source.doc in
     let x = plain_of one job told plain s.selected.source in
-    same_headers law told plain.contents plain.tells (units_across d job) d.fonts (chosen d job) s.set plain.fonts s.fonts x.serve (grid_of d job) job.headers (chosen d job) m.defined x.marked
+    same_headers law told plain.contents plain.tells wants.Rasters (units_across d job) d.fonts (chosen d job) s.set plain.fonts s.fonts (serving x.serve) (grid_of d job) job.headers (chosen d job) m.defined x.marked
 
 no_reason : OneDocument → OneFontOf → WhatCanBeHadIsHad → (job : PrintJob) (told later : Told) (plain : Plain job told) → (Rose told.faults later.faults → ⊥) → (r : Reason job told) (o : Outcome) → reasons.Tells job told r o → Holds job told later r → IsDoneOrRefused o
 no_reason one law had job told later plain shelf (Reason.NoInput why) o tells h = absurd (file_read told later plain.contents job.input plain.bytes most_input plain.tells plain.held plain.few shelf why h)
@@ -184,12 +185,12 @@ no_reason one law had job told later plain shelf (Reason.NoPixels s units) o tel
 no_reason one law had job told later plain shelf (Reason.NoFonts s fault) o tells h =
     let d = s.selected.source.doc in
     let x = plain_of one job told plain s.selected.source in
-    load_tells s.set fault o (no_load law told plain.contents plain.tells (units_across d job) d.fonts (chosen d job) s.set plain.fonts s.fonts x.serve had later shelf fault h) tells
+    load_tells s.set fault o (no_load law told plain.contents plain.tells wants.Rasters (units_across d job) d.fonts (chosen d job) s.set plain.fonts s.fonts (serving x.serve) had later shelf fault h) tells
 no_reason one law had job told later plain shelf (Reason.NoMarks c fault) o tells h =
     let s = c.sources in
     let d = s.selected.source.doc in
     let x = plain_of one job told plain s.selected.source in
-    absurd (no_stop law told plain.contents plain.tells (units_across d job) d.fonts (chosen d job) s.set plain.fonts s.fonts x.serve (grid_of d job) c.covers x.marked x.shallow x.steps fault h)
+    absurd (no_stop law told plain.contents plain.tells wants.Rasters (units_across d job) d.fonts (chosen d job) s.set plain.fonts s.fonts (serving x.serve) (grid_of d job) c.covers x.marked x.shallow x.steps fault h)
 no_reason one law had job told later plain shelf (Reason.ManyHeaders m) o tells h =
     let x = plain_of one job told plain m.covered.sources.selected.source in
     let many : most_headers < length (headers_with (doc_of m.covered) job plain.fonts) = subst (λ (ns : List (List ℕ)). most_headers < length ns) (headers_here one law job told plain m) h in
@@ -204,7 +205,7 @@ no_reason one law had job told later plain shelf (Reason.NoRoom m page need have
     let d = s.selected.source.doc in
     let x = plain_of one job told plain s.selected.source in
     let marked = each_printed (IsMarked (grid_of d job) plain.fonts d.fonts) d job x.marked in
-    let light = all_light law told plain.contents plain.tells (units_across d job) d.fonts (chosen d job) s.set plain.fonts s.fonts x.serve (grid_of d job) job.memory (printed d job) marked x.light in
+    let light = all_light law told plain.contents plain.tells wants.Rasters (units_across d job) d.fonts (chosen d job) s.set plain.fonts s.fonts (serving x.serve) (grid_of d job) job.memory (printed d job) marked x.light in
     let here = each_at (λ (ms : List Mark). marks_cost s.set ms ≤ job.memory) (marks_of_each (grid_of d job) s.set d.fonts (printed d job)) h.before h.marks h.at light in
     absurd (omega (arith, here, h.costs, h.has, h.above))
 
@@ -233,6 +234,6 @@ words_done one law had jobs words told later old new o job is plain shelf tray (
     by : (x : Job) → x ≡ Printing job → JobLeaves x told later old new o → IsDoneOrRefused o
     by x e h = job_done one law had job told later old new o plain shelf tray (subst (λ (j : Job). JobLeaves j told later old new o) e h)
 
-pub complete : OneDocument → OneFontOf → WhatCanBeHadIsHad → OneJob → (words : List (List ℕ)) (told later : Told) (old between new : Seen) (o : Outcome) → WordsLeave words told later old between o → SaysLine (message_of o) between new → IsComplete words told later old new o
+pub complete : OneDocument → OneFontOf → WhatCanBeHadIsHad → OneJob → (words : List (List ℕ)) (told later : Told) (old between new : Seen) (o : Outcome) → WordsLeave words told later old between o → SaysLine (message_of o) between new → PrintsAll words told later old new o
 complete one law had jobs words told later old between new o leaves line job is plain shelf tray =
     words_done one law had jobs words told later old between o job is plain shelf (λ rose. tray (subst (λ (n : ℕ). Rose old.faults n) (sym (line_faults (message_of o) between new line)) rose)) leaves

@@ -39,13 +39,13 @@ use Rattle.dv_top.specs.Covered.{Covered, CoversPages, Expands, IsNumbered, sele
 use Rattle.dv_top.specs.Each.{Each}
 use Rattle.dv_top.specs.Loading.{GainsPages, IsLoadReason, Orders}
 use Rattle.dv_top.specs.Outputs.{AddsLines}
-use Rattle.dv_top.specs.Printed.{End, Leaves, LeavesBy, LeavesUndone}
+use Rattle.dv_top.specs.Printed.{End, LeavesBy, LeavesUndone}
 use Rattle.dv_top.specs.Printing.{chosen, grid_of, grid_with, request_of, units_across, units_down}
 use Rattle.dv_top.specs.Reading.{Input, NotDocument, NotRead, Source, most_input}
 use Rattle.dv_top.specs.Reasons.{Reason, Refuses}
 use Rattle.dv_top.specs.Scaled.{NotScaled}
 use Rattle.dv_top.specs.Selecting.{NotChosen}
-use Rattle.dv_top.specs.Sources.{InSomePage, Selected, Sources, frame_of, no_fonts}
+use Rattle.dv_top.specs.Sources.{InSomePage, Selected, Sources, frame_of, no_fonts, no_fonts_of}
 use Rattle.dv_top.specs.Writing.{HasRasters, IsReady}
 use Rattle.dv_top.specs.declared.print.Printout.{Printout}
 use Rattle.dv_top.specs.declared.outcome.Outcome.{Outcome}
@@ -156,7 +156,7 @@ module _ (job : PrintJob) (told : Told) (s : Selected job told) (r : ReadDoc) (o
 -- ---- what is asked before pages are looked at and written
 
 -- a page whose marks are defined has an expanded tree
-tree_there : (g : Grid) (set : FontSet) (o : Option Expanded) (s : grid.State) (m : List Mark × grid.State) → marks_expanded g set o s ≡ Some m → (x : Expanded) × (o ≡ Some x)
+pub tree_there : (g : Grid) (set : FontSet) (o : Option Expanded) (s : grid.State) (m : List Mark × grid.State) → marks_expanded g set o s ≡ Some m → (x : Expanded) × (o ≡ Some x)
 tree_there g set None s m e = absurd (cc)
 tree_there g set (Some x) s m e = (x, refl)
 
@@ -177,13 +177,13 @@ rasters_of set e h id tfm None is =
     absurd here
 rasters_of set e h id tfm (Some pk) is = tt
 
-keys_none : (units : Units) → keys_now (no_fonts units) ≡ []
+keys_none : (want : Want) (units : Units) → keys_now (no_fonts_of want units) ≡ []
 unfolding keys_now
-keys_none units = refl
+keys_none want units = refl
 
-pub numbered_of : (ds : List Definition) (pages : List PageOf) (units : Units) (old set : FontSet) → old ≡ no_fonts units → Orders ds pages old set → Each (Expands set ds) pages → IsNumbered set ds pages
-numbered_of ds pages units old set e h each =
-    h set (extends_self set) each ∙ ap (λ (ks : List Key). fold (insert_key same_key) ks (selected_keys set ds pages)) (ap keys_now e ∙ keys_none units)
+pub numbered_of : (ds : List Definition) (pages : List PageOf) (want : Want) (units : Units) (old set : FontSet) → old ≡ no_fonts_of want units → Orders ds pages old set → Each (Expands set ds) pages → IsNumbered set ds pages
+numbered_of ds pages want units old set e h each =
+    h set (extends_self set) each ∙ ap (λ (ks : List Key). fold (insert_key same_key) ks (selected_keys set ds pages)) (ap keys_now e ∙ keys_none want units)
 
 pub grid_here : (doc : Document) (job : PrintJob) (across down : Units) (a d : Fraction) → across ≡ units_across doc job → down ≡ units_down doc job → a ≡ pixels_of_one across → d ≡ pixels_of_one down → grid_with a d job.drift ≡ grid_of doc job
 grid_here doc job across down a d e f h i =

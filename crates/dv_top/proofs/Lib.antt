@@ -6,6 +6,7 @@ pub mod Few
 pub mod Loaded
 pub mod Checked
 pub mod Planned
+pub mod Drafted
 pub mod Origin
 pub mod WrittenPage
 pub mod WrittenPages
@@ -23,6 +24,11 @@ pub mod AlikeCost
 pub mod Served
 pub mod Complete
 pub mod CausesAlone
+pub mod CopyRefused
+pub mod CopyPages
+pub mod CopyMeant
+pub mod CopyLeft
+pub mod CopyDone
 pub mod NotedPages
 pub mod SmallPapers
 pub mod Once
@@ -32,3 +38,10 @@ pub mod Headed
 pub mod AskedSample
 pub mod SampleFiles
 pub mod SampleEnd
+pub mod ListEnds
+pub mod ListBeside
+pub mod ListServed
+pub mod ListComplete
+pub mod AskedLists
+pub mod CopyComplete
+pub mod AskedCopies

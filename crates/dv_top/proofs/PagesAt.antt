@@ -84,6 +84,15 @@ part_of r places pages m n a =
           ∙ sym (take_map Some n (drop m pages));
     }
 
+-- the first of the places have the first of the pages
+pub front_of : (r : ReadDoc) (places : List ℕ) (pages : List PageOf) (n : ℕ) → ArePages r places pages → ArePages r (take n places) (take n pages)
+front_of r places pages n a =
+    record {
+      doc = a.doc;
+      is = a.is;
+      at = take_map (slice_get a.doc.pages) n places ∙ ap (λ (xs : List (Option PageOf)). take n xs) a.at ∙ sym (take_map Some n pages);
+    }
+
 -- any pages at these places are those
 pub same_pages : OneDocument → (r : ReadDoc) (places : List ℕ) (xs ys : List PageOf) → ArePages r places xs → ArePages r places ys → xs ≡ ys
 same_pages one r places xs ys a b =

@@ -1,5 +1,5 @@
 -- What pages use, and pages in sections.
-use Rattle.std.proofs.Common.{◌≡◌, ◌<◌, ◌≤◌, ◌+◌, ◌-◌, ◌||◌, Bool, ℕ, zero, suc, List, [], ◌∷◌, ◌++◌, length, take, drop, Option, Some, arith, refl, sym, ap, subst, ◌∙◌, inl, inr}
+use Rattle.std.proofs.Common.{◌≡◌, ◌<◌, ◌≤◌, ◌+◌, ◌-◌, ◌||◌, Bool, ℕ, zero, suc, List, [], ◌∷◌, ◌++◌, length, take, drop, Option, Some, arith, refl, sym, ap, subst, ◌∙◌}
 use Rattle.std.specs.Prelude.{slice_get, slice_index_or, ◌*◌, IsTrue}
 use Rattle.std.specs.List.{sum}
 use Rattle.std.proofs.lemmas.List.{append-nil, length-drop}
@@ -17,24 +17,17 @@ use Rattle.vf_expand.specs.Page.{IsPage, IsPageCause, page_count, page_marks}
 use Rattle.vf_expand.specs.Takes.{Stops, TookPage}
 use Rattle.vf_expand.specs.declared.fault.WalkFault.{WalkFault}
 use Rattle.vf_expand.proofs.Later.{no_stop}
-use Rattle.sections.specs.Cost.{IsPriced, cost, marks_cost}
+use Rattle.sections.specs.Cost.{IsPriced, marks_cost}
 use Rattle.sections.specs.Laws.{AreWithin, EachWithin}
-use Rattle.sections.specs.Planned.{IsPlanned, Planning}
-use Rattle.sections.specs.PlanFaults.{PlanFaultIs}
 use Rattle.sections.specs.Sections.{is_few, sections}
-use Rattle.sections.specs.Used.{HasTaken, SameFonts, Takes, Used, is_used, used_in}
+use Rattle.sections.specs.Used.{HasTaken, SameFonts, Takes, Used, used_in}
 use Rattle.sections.specs.UsedLaws.{used_both}
-use Rattle.sections.specs.declared.planner.PlanFault.{PlanFault}
-use Rattle.sections.specs.declared.planner.PlanFault.TheVariants as plan
-use Rattle.sections.proofs.Planning.{taken_cost}
 use Rattle.sections.proofs.Within.{all_within}
 use Rattle.dv_top.specs.Each.{Each}
-use Rattle.dv_top.specs.Planning.{PlanFails, PlanTells}
 use Rattle.dv_top.specs.Printing.{marks_of_each, marks_or_none}
 use Rattle.dv_top.specs.Selecting.{ArePages, pages_at}
 use Rattle.dv_top.specs.Writing.{IsReady, IsWalkable, marks_in}
-use Rattle.dv_top.specs.declared.outcome.Outcome.{Outcome as Ending}
-use Rattle.dv_top.proofs.Checked.{each_append, marks_append}
+use Rattle.dv_top.proofs.Checked.{marks_append}
 use Rattle.dv_top.proofs.Lists.{each_at, each_drop, each_take, same_some, sum_cons, take_more}
 use Rattle.dv_top.proofs.PagesAt.{Here, here, pages_here, part_of, same_pages}
 
@@ -122,63 +115,9 @@ module _ (g : Grid) (set : FontSet) (ds : List Definition) where
       let one : k + 1 - k ≡ 1 = omega arith in
       subst (HasTaken u) (ap (λ (n : ℕ). marks_in g set ds (take n (drop k pages))) one ∙ ap (marks_in g set ds) (single pages k p at) ∙ one_page p r) h
 
-  -- ---- the plan
-
-  pub each_more_marks : (pages : List PageOf) (k : ℕ) (p : PageOf) (r : IsReady g set ds p) → slice_get pages k ≡ Some p → marks_of_each g set ds (take (k + 1) pages) ≡ marks_of_each g set ds (take k pages) ++ r.marks ∷ []
-  each_more_marks pages k p r at =
-      ap (marks_of_each g set ds) (take_more pages k p at) ∙ each_append g set ds (take k pages) (p ∷ [])
-      ∙ ap (λ (o : Outcome). marks_of_each g set ds (take k pages) ++ marks_or_none (marks_alone o) ∷ []) r.defined
-
-  pub each_here : (pages : List PageOf) (k : ℕ) (p : PageOf) (r : IsReady g set ds p) → slice_get pages k ≡ Some p → slice_get (marks_of_each g set ds pages) k ≡ Some r.marks
-  each_here [] k p r e = absurd (cc)
-  each_here (q ∷ qs) zero p r e = ap Some (ap (λ (z : PageOf). marks_or_none (marks_alone (page_marks g set ds z.commands))) (same_some q p e) ∙ ap (λ (o : Outcome). marks_or_none (marks_alone o)) r.defined)
-  each_here (q ∷ qs) (suc k) p r e = each_here qs k p r e
-
   pub each_many : (pages : List PageOf) → length (marks_of_each g set ds pages) ≡ length pages
   each_many [] = refl
   each_many (p ∷ ps) = ap suc (each_many ps)
-
-  pub plan_reason : (budget : ℕ) (pages : List PageOf) (k number : ℕ) (p : PageOf) (r : IsReady g set ds p) (u : Used) (fault : PlanFault) (o : Ending) → slice_get pages k ≡ Some p → number ≡ k + 1 → IsPriced set u → HasTaken u r.marks
-      → PlanTells fault o → PlanFaultIs set budget number u fault → PlanFails set budget (marks_of_each g set ds pages) o
-  plan_reason budget pages k number p r u (plan.PageTooBig page need have) o at counted priced taken tells is =
-      let costs = taken_cost set u r.marks priced taken in
-      inr (
-        page,
-        need,
-        have,
-        tells,
-        record {
-          before = k;
-          counted = is.0 ∙ counted;
-          marks = r.marks;
-          at = each_here pages k p r at;
-          costs = is.1 ∙ costs;
-          has = is.2;
-          above = let above = is.3 in let has = is.2 in let need_is = is.1 in omega (arith, above, has, need_is);
-        },
-      )
-  plan_reason budget pages k number p r u plan.OutOfMemory o at counted priced taken tells is = inl tells
-
-  abbrev pub Light : ℕ → List Mark → Type 0
-  Light budget marks = marks_cost set marks ≤ budget
-
-  pub light_none : (budget : ℕ) (pages : List PageOf) → Each (Light budget) (marks_of_each g set ds (take 0 pages))
-  light_none budget [] = tt
-  light_none budget (p ∷ ps) = tt
-
-  pub light_more : (budget : ℕ) (pages : List PageOf) (k : ℕ) (p : PageOf) (r : IsReady g set ds p) (u : Used) → slice_get pages k ≡ Some p → IsPriced set u → HasTaken u r.marks → cost set (is_used u) ≤ budget
-      → Each (Light budget) (marks_of_each g set ds (take k pages)) → Each (Light budget) (marks_of_each g set ds (take (k + 1) pages))
-  light_more budget pages k p r u at priced taken within h =
-      let same = taken_cost set u r.marks priced taken in
-      subst (Each (Light budget)) (sym (each_more_marks pages k p r at)) (join (marks_of_each g set ds (take k pages)) h (omega (arith, within, same)))
-    where
-      join : (xs : List (List Mark)) → Each (Light budget) xs → Light budget r.marks → Each (Light budget) (xs ++ r.marks ∷ [])
-      join [] a b = (b, tt)
-      join (x ∷ xs) a b = (a.0, join xs a.1 b)
-
-  pub planned_none : (p : Planning) (pages : List PageOf) → IsPlanned set p [] → IsPlanned set p (marks_of_each g set ds (take 0 pages))
-  planned_none p [] h = h
-  planned_none p (q ∷ qs) h = h
 
 -- ---- all pages are in sections
 

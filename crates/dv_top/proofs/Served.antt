@@ -1,5 +1,5 @@
 -- The fonts of a run beside fonts that serve its pages: no fault stands in these pages. No lemma here knows a job.
-use Rattle.std.proofs.Common.{◌≡◌, ◌<◌, ◌≤◌, ◌+◌, ◌⊎◌, ℕ, zero, suc, List, [], ◌∷◌, ◌++◌, length, Option, Some, None, arith, refl, sym, ap, subst, ◌∙◌, inl, inr}
+use Rattle.std.proofs.Common.{◌≡◌, ◌<◌, ◌≤◌, ◌+◌, ◌^◌, ◌⊎◌, ℕ, zero, suc, List, [], ◌∷◌, ◌++◌, length, Option, Some, None, arith, refl, sym, ap, subst, ◌∙◌, inl, inr}
 use Rattle.dv_base.specs.Causes.{Rose}
 use Rattle.dv_base.specs.Shelf.{Contents, Told, WhereHeld}
 use Rattle.dv_base.specs.declared.units.Units.{Units}
@@ -11,12 +11,14 @@ use Rattle.dvi_doc.specs.Document.{PageOf}
 use Rattle.font_set.specs.Alike.{Alike, AreRight, HasTwin, HaveTwins, OneFontOf, Twin, WhatCanBeHadIsHad}
 use Rattle.font_set.specs.Covers.{Covers}
 use Rattle.font_set.specs.FontOf.{FontOf}
-use Rattle.font_set.specs.Fonts.{FontSet, IsLoaded, State, key_at, place_of, raster_bytes_in, state_at}
+use Rattle.font_set.specs.Fonts.{FontSet, IsLoaded, State, key_at, place_of, raster_bytes, raster_bytes_in, state_at}
 use Rattle.font_set.specs.Key.{Key}
 use Rattle.font_set.specs.LoadFaults.{LoadFaultIs, MustKnow, MustLoad}
 use Rattle.font_set.specs.declared.fault.FontFault.TheVariants as font
 use Rattle.font_set.specs.declared.fault.LoadFault.{LoadFault}
 use Rattle.font_set.specs.declared.fault.LoadFault.TheVariants as load
+use Rattle.font_set.specs.declared.want.Want.{Want}
+use Rattle.font_set.specs.declared.want.Want.TheVariants as wants
 use Rattle.font_set.proofs.Alike.{state_twin}
 use Rattle.font_set.proofs.Ids.{one_key}
 use Rattle.font_set.proofs.Refuted.{must_known, must_loaded}
@@ -36,7 +38,7 @@ use Rattle.dv_top.specs.Each.{Any, Each}
 use Rattle.dv_top.specs.Headers.{header_names, names_in, with_names}
 use Rattle.dv_top.specs.Printing.{IsMarked, marks_of_each, marks_or_none, most_steps}
 use Rattle.dv_top.specs.Specials.{specials_in, specials_of}
-use Rattle.dv_top.specs.Sources.{AreFontsFor, frame_of, no_fonts}
+use Rattle.dv_top.specs.Sources.{AreFontsFrom, frame_of, no_fonts_of}
 use Rattle.dv_top.proofs.AlikeCost.{cost_alike, no_cost}
 
 -- ---- fonts that serve the pages
@@ -47,10 +49,22 @@ any_each P Q R [] f each h = absurd h
 any_each P Q R (p ∷ ps) f each (inl h) = f p each.0 h
 any_each P Q R (p ∷ ps) f each (inr h) = any_each P Q R ps f each.1 h
 
-none_loaded : (units : Units) (id : ℕ) → IsLoaded (state_at (no_fonts units) id) → ⊥
+-- Fonts from held files that serve pages, of which so much is wanted.
+pub record Serving (want : Want) (contents : Contents) (units : Units) (ds : List Definition) (pages : List PageOf) (fonts : FontSet) : Type 0 where
+  pub same : fonts.units ≡ units
+  pub wanted : fonts.want ≡ want
+  pub right : AreRight contents fonts
+  pub covers : CoversPages fonts ds pages
+  pub few : length fonts.fonts ≤ 1000
+  pub room : raster_bytes fonts.fonts ≤ 2 ^ 30
+
+pub serving : {contents : Contents} {units : Units} {ds : List Definition} {pages : List PageOf} {fonts : FontSet} → Serve contents units ds pages fonts → Serving wants.Rasters contents units ds pages fonts
+serving s = record { same = s.same; wanted = s.wanted; right = s.right; covers = s.covers; few = s.few; room = s.room }
+
+none_loaded : (want : Want) (units : Units) (id : ℕ) → IsLoaded (state_at (no_fonts_of want units) id) → ⊥
 unfolding state_at
-none_loaded units zero h = h
-none_loaded units (suc id) h = h
+none_loaded want units zero h = h
+none_loaded want units (suc id) h = h
 
 same_id : (i j : ℕ) → Some i ≡ Some j → i ≡ j
 same_id i j e = cc
@@ -61,15 +75,15 @@ fewer_bytes (State.Real tfm pk) t f = let n = ap raster_bytes_in (f tt) in omega
 fewer_bytes (State.Virtual tfm vf) t f = omega arith
 
 -- The fonts of a run beside fonts that serve its pages.
-module _ (one : OneFontOf) (told : Told) (contents : Contents) (tells : told.held ≡ Some contents) (units : Units) (ds : List Definition) (pages : List PageOf) (set fonts : FontSet) (gained : AreFontsFor told units ds pages set)
-    (serve : Serve contents units ds pages fonts) where
+module _ (one : OneFontOf) (told : Told) (contents : Contents) (tells : told.held ≡ Some contents) (want : Want) (units : Units) (ds : List Definition) (pages : List PageOf) (set fonts : FontSet)
+    (gained : AreFontsFrom told (no_fonts_of want units) ds pages set) (serve : Serving want contents units ds pages fonts) where
   alike : Alike contents set fonts
   alike = record { units = gained.extends.units ∙ sym serve.same; want = gained.extends.want ∙ sym serve.wanted; left = right; right = serve.right }
     where
       right : AreRight contents set
       right id l =
           elim (gained.loads id l) [
-            | inl was ↦ absurd (none_loaded units id was)
+            | inl was ↦ absurd (none_loaded want units id was)
             | inr h ↦ subst (λ (o : Option Contents). WhereHeld o (λ held. FontOf held set.units set.want (key_at set id) (state_at set id))) tells h.1
           ]
 
@@ -77,7 +91,7 @@ module _ (one : OneFontOf) (told : Told) (contents : Contents) (tells : told.hel
   loaded_there : (id : ℕ) → IsLoaded (state_at set id) → (key : Key) × (j : ℕ) × Twin set fonts key id j × IsLoaded (state_at fonts j)
   loaded_there id l =
       elim (gained.loads id l) [
-        | inl was ↦ absurd (none_loaded units id was)
+        | inl was ↦ absurd (none_loaded want units id was)
         | inr h ↦ any_each (λ (p : PageOf). MustLoad set (frame_of ds p) id) (λ (p : PageOf). Covers fonts (page_acts ds p.commands)) ((key : Key) × (j : ℕ) × Twin set fonts key id j × IsLoaded (state_at fonts j)) pages
             (λ p covers must. must_loaded one contents set fonts alike (frame_of ds p) covers id must) serve.covers h.0
       ]

@@ -17,7 +17,7 @@ use Rattle.font_set.specs.Fonts.{FontSet, bitmap_at}
 use Rattle.vf_expand.specs.Grid.{Grid}
 use Rattle.vf_expand.specs.Page.{Walk}
 use Rattle.ps_subset.specs.Blocks.{AllShort}
-use Rattle.ps_emit.specs.Laws.{AllGoodPages, CutTextShows, IsGoodSet, IsGoodSetup, IsGoodWork, TextShows}
+use Rattle.ps_emit.specs.Laws.{AllGoodPages, CutTextShows, CutTextSpares, IsGoodSet, IsGoodSetup, IsGoodWork, TextShows, TextSpares}
 use Rattle.ps_emit.specs.Pages.{PrintedPage, bytes_of_job}
 use Rattle.ps_emit.specs.Written.{counted}
 use Rattle.ps_emit.specs.declared.setup.Setup.{Setup}
@@ -158,13 +158,13 @@ module _ {job : PrintJob} {told : Told} (p : Printable job told) (r : ReadDoc) (
   Text = bytes_of_job job.comments parts.setup (record { headers = map (λ h. h.items) parts.headers.items; fonts = set; pass = job.pass_ps; sections = in_sections parts.plan p.pages })
 
   -- the whole text went out
-  pub written_whole : TextShows → BeginGives name begun.Ready a b → b.messages ≡ a.messages → WroteSeen Text b c → (n : Printout) → n.pages ≡ length parts.places.now → n.sections ≡ length parts.plan → n.bytes ≡ counted 0 (length Text)
+  pub written_whole : TextShows → TextSpares → BeginGives name begun.Ready a b → b.messages ≡ a.messages → WroteSeen Text b c → (n : Printout) → n.pages ≡ length parts.places.now → n.sections ≡ length parts.plan → n.bytes ≡ counted 0 (length Text)
       → IsWritten p a c n
-  written_whole shows f messages w n pages sections bytes =
+  written_whole shows spares f messages w n pages sections bytes =
       let wrote = subst (λ text. WhereTold (Appends text) b.outputs c.outputs) k.text w.bytes in
       let run = shows job.comments p.setup (work_for p) k.good in
       record {
-        shows = record { all = run.0; run = run.1; same = run.2 };
+        shows = record { all = run.0; run = run.1; same = run.2; spares = spares job.comments p.setup (work_for p) k.good run.0 run.1 };
         left =
             subst (λ nm. LeavesOutput nm (Some (text_for p)) a c) named
             (adds a.outputs b.outputs c.outputs name (text_for p) f.0 wrote, w.keeps.begun_same ∙ f.1, w.keeps.last_same ∙ f.2);
@@ -173,17 +173,19 @@ module _ {job : PrintJob} {told : Told} (p : Printable job told) (r : ReadDoc) (
       }
 
   -- a front of it did
-  pub written_front : CutTextShows → BeginGives name begun.Ready a b → b.messages ≡ a.messages → CutSeen Text b c → IsUnwritten p a c outcome.WriteFault
-  written_front shows f messages w =
+  pub written_front : TextShows → CutTextShows → TextSpares → CutTextSpares → BeginGives name begun.Ready a b → b.messages ≡ a.messages → CutSeen Text b c → IsUnwritten p a c outcome.WriteFault
+  written_front whole shows once spares f messages w =
       let front = take w.taken (text_for p) in
       let rest = drop w.taken (text_for p) in
       let splits : text_for p ≡ front ++ rest = sym (take-append-drop w.taken (text_for p)) in
       let wrote = subst (λ text. WhereTold (Appends (take w.taken text)) b.outputs c.outputs) k.text w.bytes in
       let run = shows job.comments p.setup (work_for p) k.good front rest splits in
+      let all = whole job.comments p.setup (work_for p) k.good in
+      let so_far = spares job.comments p.setup (work_for p) k.good front rest run.0 splits run.2 in
       record {
         tells = refl;
         written = Some front;
-        front = record { missing = rest; splits = splits; so_far = run.0; later = run.1; run = run.2; first = run.3 };
+        front = record { missing = rest; splits = splits; so_far = run.0; later = run.1; run = run.2; first = run.3; spares = record { texts_later = so_far.0.0; texts = so_far.0.1; glyphs_later = so_far.1.0; glyphs = so_far.1.1; once = (once job.comments p.setup (work_for p) k.good all.0 all.1).once } };
         left =
             subst (λ nm. LeavesOutput nm (Some front) a c) named
             (adds a.outputs b.outputs c.outputs name front f.0 wrote, w.keeps.begun_same ∙ f.1, w.keeps.last_same ∙ f.2);

@@ -3,7 +3,7 @@ use Rattle.std.proofs.Common.{◌≡◌, ◌<◌, ◌≤◌, ◌+◌, ◌-◌, �
 use Rattle.std.specs.Prelude.{slice_get, codes, IfOk, Ok, Err}
 use Rattle.std.specs.List.{AllByRecursion, sum}
 use Rattle.std.specs.Result.{IsErr}
-use Rattle.std.proofs.lemmas.List.{length-map, drop_all}
+use Rattle.std.proofs.lemmas.List.{length-drop, length-map, drop_all}
 use Rattle.dv_base.specs.declared.tray.Tray.{Ghosts}
 use Rattle.positions.specs.Mark.{Mark}
 use Rattle.dvi_ops.specs.Command.{Definition}
@@ -14,6 +14,7 @@ use Rattle.font_set.specs.Fonts.{FontSet}
 use Rattle.vf_expand.specs.Grid.{Grid, State}
 use Rattle.vf_expand.specs.Marks.{marks_alone}
 use Rattle.vf_expand.specs.Page.{IsPage, page_marks}
+use Rattle.sections.specs.Planned.{UsesLast}
 use Rattle.sections.specs.Used.{HasTaken, Used, is_used}
 use Rattle.ps_subset.specs.FontText.{fonts_lines}
 use Rattle.ps_subset.specs.Prolog.{line}
@@ -30,7 +31,7 @@ use Rattle.dv_top.specs.Printing.{in_sections, joined, marks_alone_of, marks_of_
 use Rattle.dv_top.specs.Wrote.{WritesSeen}
 use Rattle.dv_top.specs.Writing.{IsReady, marks_in}
 use Rattle.sections.specs.Sections.{all_marks}
-use Rattle.dv_top.proofs.Lists.{cons_head, cons_tail, same_some, sum_cons, split_at, take_more}
+use Rattle.dv_top.proofs.Lists.{cons_head, cons_tail, same_some, sum_cons, split_at, take_all, take_more}
 use Rattle.dv_top.proofs.WrittenPage.{still_begun}
 
 -- the code's pages are as many
@@ -350,10 +351,32 @@ module _ (comments : Bool) (set : FontSet) (pass : Bool) (plan : List ℕ) (page
       (cut_longer (sections_calls comments set pass (in_sections (take k plan) pages) ++ Section) (sections_calls comments set pass (in_sections (drop (suc k) plan) (drop (sum (take k plan ++ n ∷ [])) pages))) x z
       (cut_later (sections_calls comments set pass (in_sections (take k plan) pages)) Section x y z f h))
 
+  -- the last section behind those before it
+  pub sections_whole : length plan ≤ k + 1 → sections_calls comments set pass (in_sections (take k plan) pages) ++ Section ≡ sections_calls comments set pass (in_sections plan pages)
+  sections_whole last =
+      sym (ap (sections_calls comments set pass) first_one ∙ sections_more comments set pass (in_sections (take k plan) pages) (take n (drop (sum (take k plan)) pages)))
+      ∙ ap (λ (ns : List ℕ). sections_calls comments set pass (in_sections ns pages)) (take_all plan (k + 1) last)
+
 -- what a tray shows of that
 pub seen_writes : {X E : Type 0} (text : List ℕ) (x y : Out) (r : Result X E) → Writes text x y r → WritesSeen text x.seen y.seen r
 seen_writes text x y (Ok v) w = record { bytes = w.bytes; keeps = w.keeps }
 seen_writes text x y (Err e) w = record { taken = w.taken; bytes = w.bytes; rose = w.rose; keeps = w.keeps }
+
+-- ---- what the last section uses
+
+each_behind : (g : Grid) (set : FontSet) (ds : List Definition) (k : ℕ) (pages : List PageOf) → drop k (marks_of_each g set ds pages) ≡ marks_of_each g set ds (drop k pages)
+each_behind g set ds zero [] = refl
+each_behind g set ds zero (p ∷ ps) = refl
+each_behind g set ds (suc k) [] = refl
+each_behind g set ds (suc k) (p ∷ ps) = each_behind g set ds k ps
+
+pub last_uses : (g : Grid) (set : FontSet) (ds : List Definition) (u : Used) (plan : List ℕ) (pages : List PageOf) (done all : ℕ) → 0 < length plan → done ≡ sum (take (length plan - 1) plan) → all ≡ length pages
+    → UsesLast u plan (marks_of_each g set ds pages) → HasTaken u (marks_in g set ds (take (all - done) (drop done pages)))
+last_uses g set ds u plan pages done all some is many uses =
+    let whole : take (all - done) (drop done pages) ≡ drop done pages = take_all (drop done pages) (all - done) (let long = length-drop done pages in omega (arith, long, many)) in
+    let same : all_marks (drop (sum (take (length plan - 1) plan)) (marks_of_each g set ds pages)) ≡ marks_in g set ds (take (all - done) (drop done pages)) =
+    ap (λ (n : ℕ). all_marks (drop n (marks_of_each g set ds pages))) (sym is) ∙ ap all_marks (each_behind g set ds done pages) ∙ ap (marks_in g set ds) (sym whole) in
+    subst (HasTaken u) same (uses some)
 
 -- the same with the same grid by another name
 pub grid_said : (set : FontSet) (ds : List Definition) (n : ℕ) (ps : List PageOf) (pages : List PrintedPage) (g h : Grid) → g ≡ h → printed_from g set ds n ps ≡ Some pages → printed_from h set ds n ps ≡ Some pages
@@ -394,6 +417,20 @@ pub section_here : (P : List ℕ → Type 0) (comments : Bool) (set : FontSet) (
 section_here P comments set pass pages done n sum e h =
     let one : done + n - done ≡ n = omega arith in
     subst (λ (m : ℕ). P (section_calls comments set pass (take n (drop m pages)))) e (subst (λ (m : ℕ). P (section_calls comments set pass (take m (drop done pages)))) one h)
+
+-- the last section, whose pages are all that are left
+pub last_section : (P : List ℕ → Type 0) (comments : Bool) (set : FontSet) (pass : Bool) (plan : List ℕ) (pages : List PrintedPage) (k n done all : ℕ) → slice_get plan k ≡ Some n → length plan ≤ k + 1 → done ≡ sum (take k plan) → sum plan ≡ all
+    → P (section_calls comments set pass (take (all - done) (drop done pages))) → P (section_calls comments set pass (take n (drop (sum (take k plan)) pages)))
+last_section P comments set pass plan pages k n done all at last is planned h =
+    let more = sum_more plan k n at in
+    let whole : sum (take (k + 1) plan) ≡ sum plan = ap sum (take_all plan (k + 1) last) in
+    let count : all ≡ done + n = omega (arith, more, whole, is, planned) in
+    section_here P comments set pass pages done n (sum (take k plan)) is (subst (λ (m : ℕ). P (section_calls comments set pass (take (m - done) (drop done pages)))) count h)
+
+-- nothing is written of no sections
+pub no_sections : (comments : Bool) (set : FontSet) (pass : Bool) (plan : List ℕ) (pages : List PrintedPage) → length plan ≡ 0 → sections_calls comments set pass (in_sections plan pages) ≡ []
+no_sections comments set pass [] pages none = refl
+no_sections comments set pass (n ∷ ns) pages none = absurd (omega (arith, none))
 
 -- how many bytes were counted from nothing
 pub count_of : {E : Type 0} (text : List ℕ) (x y : Out) (r : Result ℕ E) → x.count ≡ 0 → Writes text x y r → IfOk r (λ n. n ≡ y.count) → IfOk r (λ n. n ≡ counted 0 (length text))

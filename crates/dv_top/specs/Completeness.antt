@@ -82,6 +82,6 @@ IsDoneOrRefused outcome.OutOfMemory = Unit {0}
 IsDoneOrRefused _ = ⊥
 
 -- What can be printed is printed, where neither the shelf nor the tray has a fault and memory is given.
-abbrev pub IsComplete : List (List ℕ) → Told → Told → Seen → Seen → Outcome → Type 0
-IsComplete words told later old new o =
+abbrev pub PrintsAll : List (List ℕ) → Told → Told → Seen → Seen → Outcome → Type 0
+PrintsAll words told later old new o =
     (job : PrintJob) → Asks words (Printing job) → Plain job told → (Rose told.faults later.faults → ⊥) → (Rose old.faults new.faults → ⊥) → IsDoneOrRefused o

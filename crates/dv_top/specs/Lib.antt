@@ -25,8 +25,17 @@ pub mod Checking
 pub mod Reasons
 pub mod Printable
 pub mod Printed
+pub mod Listable
+pub mod NotListed
 pub mod Listed
+pub mod ListBegun
+pub mod AskedList
+pub mod Copying
+pub mod Wanted
+pub mod CopyReasons
+pub mod Copyable
 pub mod Copied
+pub mod CopyWork
 pub mod Sampled
 pub mod WholeRun
 pub mod Given
@@ -36,3 +45,5 @@ pub mod Wrote
 pub mod Planning
 pub mod Output
 pub mod Completeness
+pub mod Lists
+pub mod Copies

@@ -11,7 +11,7 @@ use Rattle.dv_top.specs.Covered.{Covered, IsNumbered, doc_of, set_of}
 use Rattle.dv_top.specs.Each.{Each}
 use Rattle.dv_top.specs.Headers.{HeldEach}
 use Rattle.dv_top.specs.Outputs.{LeavesOutput, WroteFront}
-use Rattle.dv_top.specs.Printable.{IsFront, Printable, Shows, owed_for, text_for}
+use Rattle.dv_top.specs.Printable.{IsFront, Printable, Shows, owed_for, printout_for, text_for}
 use Rattle.dv_top.specs.Printed.{IsCountOf}
 use Rattle.dv_top.specs.Printing.{chosen, grid_of, most_steps, plan_of, request_of}
 use Rattle.dv_top.specs.Reasons.{most_headers, names_for}
@@ -51,7 +51,7 @@ module _ {job : PrintJob} {told : Told} (p : Printable job told) where
 
   -- the whole text was written
   pub record IsWritten (old new : Seen) (n : Printout) : Type 0 where
-    pub shows : Shows (text_for p) (owed_for p)
+    pub shows : Shows (text_for p) (printout_for p) (owed_for p)
     pub left : LeavesOutput job.output (Some (text_for p)) old new
     pub lines : new.messages ≡ old.messages
     pub counts : IsCountOf job told p n
@@ -60,7 +60,7 @@ module _ {job : PrintJob} {told : Told} (p : Printable job told) where
   pub record IsUnwritten (old new : Seen) (o : Outcome) : Type 0 where
     pub tells : o ≡ outcome.WriteFault
     pub written : Option (List ℕ)
-    pub front : WroteFront (text_for p) (IsFront (text_for p) (owed_for p)) written
+    pub front : WroteFront (text_for p) (IsFront (text_for p) (printout_for p) (owed_for p)) written
     pub left : LeavesOutput job.output written old new
     pub lines : new.messages ≡ old.messages
     pub rose : Rose old.faults new.faults

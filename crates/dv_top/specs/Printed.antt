@@ -7,7 +7,7 @@ use Rattle.dv_words.specs.Jobs.{PrintJob}
 use Rattle.ps_emit.specs.Written.{counted}
 use Rattle.dv_top.specs.Covered.{set_of}
 use Rattle.dv_top.specs.Outputs.{LeavesLines, LeavesOutput, WroteFront}
-use Rattle.dv_top.specs.Printable.{IsFront, Printable, Shows, owed_for, text_for, warnings_for}
+use Rattle.dv_top.specs.Printable.{IsFront, Printable, Shows, owed_for, printout_for, text_for, warnings_for}
 use Rattle.dv_top.specs.Printing.{plan_of}
 use Rattle.dv_top.specs.Reasons as reasons
 use Rattle.dv_top.specs.Reasons.{Holds, Reason}
@@ -34,14 +34,14 @@ abbrev pub WarnedOrSilent : (job : PrintJob) (told : Told) → List (List ℕ) �
 WarnedOrSilent job told said = (said ≡ []) ⊎ ((p : Printable job told) × (said ≡ warnings_for p))
 
 -- What an end means for the bytes of the output, which are none where none was begun, and for the lines that were said. A job that is
--- finished has said its warnings and written its whole text, and that shows what is owed. One that couldn't write could have been
--- printed, has said its warnings, and has written a front of its text or has begun nothing. Any other has begun nothing, for want of
--- memory or for its reason.
+-- finished has said its warnings and written its whole text, and that shows what is owed and is economical. One that couldn't write could
+-- have been printed, has said its warnings, and has written a front of its text or has begun nothing. Any other has begun nothing, for
+-- want of memory or for its reason.
 abbrev pub Means : (job : PrintJob) (told : Told) → Told → End job told → Option (List ℕ) → List (List ℕ) → Type 0
 Means job told later End.Finished written said =
-    (p : Printable job told) × (written ≡ Some (text_for p)) × (said ≡ warnings_for p) × Shows (text_for p) (owed_for p)
+    (p : Printable job told) × (written ≡ Some (text_for p)) × (said ≡ warnings_for p) × Shows (text_for p) (printout_for p) (owed_for p)
 Means job told later End.Unwritten written said =
-    (p : Printable job told) × WroteFront (text_for p) (IsFront (text_for p) (owed_for p)) written × (said ≡ warnings_for p)
+    (p : Printable job told) × WroteFront (text_for p) (IsFront (text_for p) (printout_for p) (owed_for p)) written × (said ≡ warnings_for p)
 Means job told later End.Wanting written said = (written ≡ None) × WarnedOrSilent job told said
 Means job told later (End.Refused reason) written said = (written ≡ None) × (said ≡ []) × Holds job told later reason
 
@@ -70,7 +70,7 @@ pub record IsCountOf (job : PrintJob) (told : Told) (p : Printable job told) (n 
 -- What a job that is finished leaves, with its numbers.
 pub record Finishes (job : PrintJob) (told : Told) (old new : Seen) (n : Printout) : Type 0 where
   pub print : Printable job told
-  pub shows : Shows (text_for print) (owed_for print)
+  pub shows : Shows (text_for print) (printout_for print) (owed_for print)
   pub left : LeavesOutput job.output (Some (text_for print)) old new
   pub lines : LeavesLines (warnings_for print) old new
   pub counts : IsCountOf job told print n

@@ -33,13 +33,17 @@ no_fonts_of want units = record { units = units; want = want; fonts = [] }
 abbrev pub no_fonts : Units → FontSet
 no_fonts units = no_fonts_of wants.Rasters units
 
--- Fonts that came from the shelf for these pages: each that is loaded is what the files of its key tell, and a character is set in it
--- in a frame of one of the pages; each that is known is selected in such a frame.
-abbrev pub AreFontsFor : Told → Units → List Definition → List PageOf → FontSet → Type 0
-AreFontsFor told units ds pages set =
-    Gains told.held (no_fonts units) set
+-- Fonts that came from the shelf for these pages, where there were none before: each that is loaded is what the files of its key tell, and
+-- a character is set in it in a frame of one of the pages; each that is known is selected in such a frame.
+abbrev pub AreFontsFrom : Told → FontSet → List Definition → List PageOf → FontSet → Type 0
+AreFontsFrom told none ds pages set =
+    Gains told.held none set
     (λ id. InSomePage pages (λ p. MustLoad set (frame_of ds p) id))
     (λ key. InSomePage pages (λ p. MustKnow set (frame_of ds p) key))
+
+-- the same with bitmaps
+abbrev pub AreFontsFor : Told → Units → List Definition → List PageOf → FontSet → Type 0
+AreFontsFor told units ds pages set = AreFontsFrom told (no_fonts units) ds pages set
 
 -- The pages that the job asks for are there.
 pub record Selected (job : PrintJob) (told : Told) : Type 0 where

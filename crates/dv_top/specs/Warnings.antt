@@ -1,5 +1,5 @@
 -- What a run warns of: fonts whose checksums don't agree, and specials that mean nothing to it.
-use Rattle.std.specs.Prelude.{ℕ, List, [], ◌∷◌, ◌++◌, Bool, true, false, not, ◌&&◌, ◌||◌, codes, filter, map, nat_eq, take, length, Option, Some, None, if◌then◌else◌}
+use Rattle.std.specs.Prelude.{ℕ, List, [], ◌∷◌, ◌++◌, Bool, true, false, not, ◌&&◌, ◌||◌, codes, map, nat_eq, take, length, Option, Some, None, if◌then◌else◌}
 use Rattle.positions.specs.Mark.{Mark}
 use Rattle.specials.specs.Special.{Meaning, special_of}
 use Rattle.specials.specs.Special.Meaning.{Paper, BadPaper, Header, Literal, Unknown}

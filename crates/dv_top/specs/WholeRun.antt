@@ -1,4 +1,4 @@
--- What one run leaves: of the words, of the shelf, of the tray.
+-- What one run leaves: of the words, of the shelf, of the tray; and what is done for certain.
 use Rattle.std.specs.Prelude.{◌≡◌, ℕ, ◌⊎◌, List}
 use Rattle.dv_base.specs.Shelf.{Told}
 use Rattle.dv_base.specs.Tray.{Seen}
@@ -6,9 +6,12 @@ use Rattle.dv_words.specs.Jobs.{Job}
 use Rattle.dv_words.specs.Jobs.Job.{Copying, Listing, Printing, Sampling}
 use Rattle.dv_words.specs.Language.{IsWrongAt}
 use Rattle.dv_words.specs.Words.{Accepted, Asks}
+use Rattle.dv_top.specs.Completeness.{PrintsAll}
 use Rattle.dv_top.specs.Copied as copied
+use Rattle.dv_top.specs.Copies.{CopiesAll}
 use Rattle.dv_top.specs.Lines.{SaysLine}
 use Rattle.dv_top.specs.Listed as listed
+use Rattle.dv_top.specs.Lists.{ListsAll}
 use Rattle.dv_top.specs.Message.{message_of}
 use Rattle.dv_top.specs.Printed as printed
 use Rattle.dv_top.specs.Sampled as sampled
@@ -35,3 +38,7 @@ WordsLeave words told later old new o =
 -- A run: what the words leave, and then the message of the outcome.
 abbrev pub Runs : List (List ℕ) → Told → Told → Seen → Seen → Outcome → Type 0
 Runs words told later old new o = (between : Seen) × WordsLeave words told later old between o × SaysLine (message_of o) between new
+
+-- What can be printed, copied or listed is so, where neither the shelf nor the tray has a fault and memory is given.
+abbrev pub IsComplete : List (List ℕ) → Told → Told → Seen → Seen → Outcome → Type 0
+IsComplete words told later old new o = PrintsAll words told later old new o × CopiesAll words told later old new o × ListsAll words told later old new o

@@ -17,10 +17,13 @@
 mod check;
 mod choose;
 mod copy;
+mod draft;
 mod headers;
 mod heads;
 mod label;
 mod list;
+#[cfg(test)]
+mod list_tests;
 mod load;
 mod message;
 mod notes;
@@ -38,6 +41,9 @@ mod setup;
 mod tell;
 #[cfg(test)]
 mod tests;
+#[cfg(test)]
+mod tool_tests;
+mod walk;
 mod warnings;
 mod write;
 

@@ -166,6 +166,7 @@ impl Notes {
     /// The next page begins: nothing of it is used yet.
     pub fn begin_page(&mut self)
         ensures pages { (job : TheJob) (pages : List (List Mark)) → HasNoted job self.old pages → HasNoted job self.new (pages ++ [] ∷ []) }
+        ensures none { HasTaken self.new.used [] }
         ensures same { SameFonts self.old.used self.new.used }
     {
         self.usage.clear();
@@ -178,6 +179,13 @@ impl Notes {
         ensures { result.now ≡ self.now.used }
     {
         &self.usage
+    }
+
+    /// The memory for what pages use, which nothing needs any more beside it.
+    pub fn into_usage(self) -> Usage
+        ensures { result ≡ self.used }
+    {
+        self.usage
     }
 
     /// The paper of the pages.

@@ -7,12 +7,13 @@ ghost use Rattle.dv_words.specs.JobView.{print_view};
 ghost use Rattle.pk_raster.specs.Font.{Bitmap};
 ghost use Rattle.pk_raster.specs.Laws.{AreRows};
 ghost use Rattle.font_set.specs.Fonts.{bitmap_at};
+ghost use Rattle.sections.specs.Planned.{UsesLast};
 ghost use Rattle.ps_emit.specs.Pages.{PrintedPage, Work, bytes_of_job};
 ghost use Rattle.ps_emit.specs.Written.{counted};
 ghost use Rattle.dv_top.specs.Asked.{IsGoodJob};
 ghost use Rattle.dv_top.specs.Output.{IsWritable, Prints};
 ghost use Rattle.dv_top.specs.Printable.{Printable};
-ghost use Rattle.dv_top.specs.Printing.{in_sections, printed_from};
+ghost use Rattle.dv_top.specs.Printing.{in_sections, marks_of_each, printed_from};
 ghost use Rattle.dv_top.specs.Selecting.{ArePages};
 ghost use Rattle.dv_top.specs.Writing.{IsWalkable};
 ghost use Rattle.dv_top.specs.Wrote.{WritesSeen};
@@ -25,7 +26,7 @@ use dv_words::PrintJob;
 use dvi_doc::{Doc, one_document};
 use font_set::Fonts;
 use ps_emit::Emitter;
-use ps_emit::laws::{calls_make_text, cut_text_shows, text_shows};
+use ps_emit::laws::{calls_make_text, cut_text_shows, cut_text_spares, text_shows, text_spares};
 use sections::Usage;
 use std::alloc::Global;
 use vf_expand::Walker;
@@ -45,6 +46,8 @@ fn write_output<T: Tray>(
     requires planned { sum parts.now.plan ≡ length parts.now.places.now }
     requires begun { 0 < (T.seen tray.old).begun }
     requires given { usage.old.fonts ≡ length fonts.now.fonts }
+    requires last_given { parts.now.last.fonts ≡ length fonts.now.fonts }
+    requires last { (pages : List PageOf) → ArePages doc.now parts.now.places.now pages → UsesLast parts.now.last parts.now.plan (marks_of_each walker.old.grid fonts.now doc.now.fonts pages) }
     ensures writes { (pages : List PageOf) → ArePages doc.now parts.now.places.now pages → (printed : List PrintedPage) → printed_from walker.old.grid fonts.now doc.now.fonts 1 pages ≡ Some printed
         → WritesSeen (bytes_of_job job.now.comments parts.now.setup (record { headers = map (λ h. h.items) parts.now.headers.items; fonts = fonts.now; pass = job.now.pass_ps; sections = in_sections parts.now.plan printed })) (T.seen tray.old) (T.seen tray.new) result }
     ensures bytes { (pages : List PageOf) → ArePages doc.now parts.now.places.now pages → (printed : List PrintedPage) → printed_from walker.old.grid fonts.now doc.now.fonts 1 pages ≡ Some printed
@@ -76,6 +79,8 @@ pub fn write<T: Tray>(
     requires width { unsigned_abs parts.now.setup.paper.0 < 2 ^ 63 }
     requires height { unsigned_abs parts.now.setup.paper.1 < 2 ^ 63 }
     requires given { usage.old.fonts ≡ length fonts.now.fonts }
+    requires last_given { parts.now.last.fonts ≡ length fonts.now.fonts }
+    requires last { (pages : List PageOf) → ArePages doc.now parts.now.places.now pages → UsesLast parts.now.last parts.now.plan (marks_of_each walker.old.grid fonts.now doc.now.fonts pages) }
     requires known { length fonts.now.fonts ≤ 1000 }
     requires rows { (id code : ℕ) (bitmap : Bitmap) → bitmap_at fonts.now id code ≡ Some bitmap → AreRows bitmap }
     ensures leaves { (told : Told) (p : Printable (print_view job.now) told) → IsWritable p doc.now parts.now walker.old fonts.now → Prints p (T.seen tray.old) (T.seen tray.new) result }
@@ -84,6 +89,8 @@ pub fn write<T: Tray>(
     one_document();
     text_shows();
     cut_text_shows();
+    text_spares();
+    cut_text_spares();
     match tray.begin(alloc, job.output.as_str()) {
         Begun::Ready => {
             let bytes = write_output(tray, job, doc, parts, fonts, walker, usage)?;

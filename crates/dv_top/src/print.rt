@@ -1,5 +1,5 @@
 //! A DVI file in, a text out.
-ghost use Rattle.std.specs.Prelude.{◌≡◌, ◌≤◌, ◌<◌, ◌^◌, ℕ, IfErr, IfOk, List, Some, length, map};
+ghost use Rattle.std.specs.Prelude.{◌≡◌, ◌≤◌, ◌<◌, ◌^◌, ℕ, IfErr, IfOk, List, Some, length, map, take};
 ghost use Rattle.dv_base.specs.Shelf.{Keeps, Told};
 ghost use Rattle.dv_base.specs.UnitPixels.{pixels_of_one};
 ghost use Rattle.dvi_doc.specs.Document.{Document, PageOf};
@@ -21,26 +21,25 @@ ghost use Rattle.dv_top.specs.Loading.{GainsPages, LoadFails};
 ghost use Rattle.dv_top.specs.Printed.{LeavesBy};
 ghost use Rattle.dv_top.specs.Reading.{Input};
 ghost use Rattle.dv_top.specs.Selecting.{ArePages, places_of};
-ghost use Rattle.dv_top.specs.Printing.{request_of};
+ghost use Rattle.dv_top.specs.Planning.{HasDrafted};
+ghost use Rattle.dv_top.specs.Printing.{marks_of_each, request_of};
 ghost use Rattle.dv_top.specs.Sources.{Selected, no_fonts};
 
-use crate::check::check;
+use crate::check::{Looked, check};
 use crate::choose::choose;
 use crate::headers::headers_of;
-use crate::load::load_pages;
-use crate::notes::Notes;
+use crate::load::load;
 use crate::outcome::Outcome;
 use crate::output::write;
 use crate::plan::plan;
 use crate::read::{read_document, read_input};
-use crate::scale::{Scale, scale_of};
+use crate::scale::scale_of;
 use crate::setup::setup;
 use crate::write::Parts;
 use dv_base::{Shelf, Tray};
 use dv_words::PrintJob;
 use dvi_doc::{Doc, one_document};
 use font_set::{Fonts, Want};
-use sections::Usage;
 use std::alloc::Global;
 use vf_expand::{Walker, expanding};
 
@@ -52,39 +51,17 @@ pub struct Printout {
     pub bytes: u64,
 }
 
-/// The fonts of the pages at these places.
-fn load<S: Shelf>(
-    alloc: Global,
-    doc: &Doc<'_>,
-    places: &[u32],
-    scale: &Scale,
-    shelf: &mut S,
-) -> Result<Fonts, Outcome>
-    requires read { IsRead doc.now }
-    requires short { length doc.now.bytes < 2 ^ 31 }
-    requires within { Each (λ place. place < length doc.now.pages) places.now }
-    requires units { AreUnits scale.now.units }
-    requires conv { scale.now.conv ≡ pixels_of_one scale.now.units }
-    ensures covers { (pages : List PageOf) → ArePages doc.now places.now pages → IfOk result (λ fonts. CoversPages fonts doc.now.fonts pages) }
-    ensures gains { (pages : List PageOf) → ArePages doc.now places.now pages → IfOk result (GainsPages (S.told shelf.old) doc.now.fonts pages (no_fonts scale.now.units)) }
-    ensures numbered { (pages : List PageOf) → ArePages doc.now places.now pages → IfOk result (λ fonts. Each (Expands fonts doc.now.fonts) pages → IsNumbered fonts doc.now.fonts pages) }
-    ensures reason { (pages : List PageOf) → ArePages doc.now places.now pages → IfErr result (LoadFails (no_fonts scale.now.units) doc.now.fonts pages (S.told shelf.old) (S.told shelf.new)) }
-    ensures keeps { Keeps (S.told shelf.old) (S.told shelf.new) }
-{
-    let mut fonts = Fonts::new(alloc, scale.units, scale.conv, Want::Rasters);
-    load_pages(doc, places, shelf, &mut fonts)?;
-    Ok(fonts)
-}
-
-/// Puts the pages at these places into sections, says the warnings, and writes the text. The pages were looked at before.
+/// Puts the pages at these places into sections, says the warnings, and writes the text. The first ones were looked at before, and the
+/// others are the same once more.
 fn print_ready<T: Tray>(
     alloc: Global,
     job: &PrintJob,
     doc: &Doc<'_>,
     places: &[u32],
+    first: usize,
     fonts: &Fonts,
     walker: &mut Walker,
-    notes: &Notes,
+    looked: Looked,
     headers: Vec<Vec<u8>>,
     tray: &mut T,
 ) -> Result<Printout, Outcome>
@@ -93,22 +70,26 @@ fn print_ready<T: Tray>(
     requires few { length places.now ≤ 1000000 }
     requires known { length fonts.now.fonts ≤ 1000 }
     requires rows { (id code : ℕ) (bitmap : Bitmap) → bitmap_at fonts.now id code ≡ Some bitmap → AreRows bitmap }
-    requires noted { (pages : List (List Mark)) × HasNoted (print_view job.now) notes.now pages }
-    ensures leaves { (told later : Told) (c : Covered (print_view job.now) told) → IsLookedAt c doc.now places.now walker.old fonts.now → HasNoted (print_view job.now) notes.now (chosen_marks c)
+    requires noted { (pages : List (List Mark)) × HasNoted (print_view job.now) looked.notes pages }
+    requires given { looked.notes.used.fonts ≡ length fonts.now.fonts }
+    requires first { first ≤ length places.now }
+    requires drafted { (pages : List PageOf) → ArePages doc.now places.now pages → HasDrafted fonts.now (print_view job.now).memory (print_view job.now).per_section looked.draft (marks_of_each walker.old.grid fonts.now doc.now.fonts (take first pages)) }
+    ensures leaves { (told later : Told) (c : Covered (print_view job.now) told) → IsLookedAt c doc.now places.now walker.old fonts.now → HasNoted (print_view job.now) looked.notes (chosen_marks c)
         → IsHeaded c (map (λ h. h.items) headers.items) → LeavesBy (print_view job.now) told later (T.seen tray.old) (T.seen tray.new) result }
     ensures later { (T.seen tray.old).faults ≤ (T.seen tray.new).faults }
 {
     one_document();
-    let mut usage = Usage::new(alloc, fonts)?;
-    let limits = (job.memory, job.per_section);
-    let plan = plan(alloc, doc, places, fonts, walker, &mut usage, limits)?;
+    let Looked { notes, draft } = looked;
+    let (plan, last) = plan(alloc, doc, places, first, fonts, walker, draft)?;
     let parts = Parts {
         setup: setup(job, notes.paper(), places.len() as u32),
         headers,
         places,
         plan,
+        last,
     };
     notes.warn(fonts, tray);
+    let mut usage = notes.into_usage();
     write(alloc, job, doc, &parts, fonts, walker, &mut usage, tray)
 }
 
@@ -135,20 +116,22 @@ fn print_document<S: Shelf, T: Tray>(
     expanding();
     let across = scale_of(doc, job.mag, job.dpi.0)?;
     let down = scale_of(doc, job.mag, job.dpi.1)?;
-    let once = &places[..places.len() / job.collated as usize];
-    let fonts = load(alloc, doc, once, &across, shelf)?;
+    let first = places.len() / job.collated as usize;
+    let once = &places[..first];
+    let fonts = load(alloc, doc, once, &across, Want::Rasters, shelf)?;
     fonts.bitmaps_are_rows();
     let mut walker = Walker::new(alloc, across.conv, down.conv, i64::from(job.drift))?;
-    let notes = check(alloc, doc, once, &fonts, &mut walker, job)?;
-    let headers = headers_of(alloc, &notes, shelf)?;
+    let looked = check(alloc, doc, once, &fonts, &mut walker, job)?;
+    let headers = headers_of(alloc, &looked.notes, shelf)?;
     print_ready(
         alloc,
         job,
         doc,
         places,
+        first,
         &fonts,
         &mut walker,
-        &notes,
+        looked,
         headers,
         tray,
     )

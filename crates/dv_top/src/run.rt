@@ -4,8 +4,7 @@ ghost use Rattle.std.specs.String.{string_bytes};
 ghost use Rattle.dv_base.specs.Shelf.{Keeps};
 ghost use Rattle.dv_words.specs.JobView.{job_view};
 ghost use Rattle.dv_words.specs.Words.{Asks};
-ghost use Rattle.dv_top.specs.Completeness.{IsComplete};
-ghost use Rattle.dv_top.specs.WholeRun.{JobLeaves, Runs, WordsLeave};
+ghost use Rattle.dv_top.specs.WholeRun.{IsComplete, JobLeaves, Runs, WordsLeave};
 
 use crate::copy::copy_job;
 use crate::list::list_job;
@@ -37,7 +36,10 @@ fn run_job<S: Shelf, T: Tray>(
             Ok(_) => Outcome::Done,
             Err(outcome) => outcome,
         },
-        Job::List(job) => list_job(alloc, job, shelf, tray),
+        Job::List(job) => match list_job(alloc, job, shelf, tray) {
+            Ok(()) => Outcome::Done,
+            Err(outcome) => outcome,
+        },
         Job::Copy(job) => copy_job(alloc, job, shelf, tray),
         Job::Sample { pages } => sample_job(alloc, *pages, tray),
     }

@@ -19,7 +19,7 @@ const RULE: [u8; 128] = [
 ];
 
 /// A TFM file with the codes 65 and 66, each half the size wide.
-const TFM: [u8; 48] = [
+pub const TFM: [u8; 48] = [
     0, 12, 0, 2, 0, 65, 0, 66, 0, 2, 0, 0, 0, 0, 0, 0, 0, 0, 0, 0, 0, 0, 0, 0, 0, 0, 0, 0, 0, 0xa0,
     0, 0, 1, 0, 0, 0, 1, 0, 0, 0, 0, 0, 0, 0, 0, 8, 0, 0,
 ];
@@ -37,7 +37,7 @@ const LARGE: [u8; 57] = [
 ];
 
 /// What begins a VF file with one local font, `cmr10` at the virtual font's own size.
-const VF: [u8; 32] = [
+pub const VF: [u8; 32] = [
     0xf7, 0xca, 0, 0, 0, 0, 0, 0, 0xa0, 0, 0, 0xf3, 0, 0, 0, 0, 0, 0, 0x10, 0, 0, 0, 0xa0, 0, 0, 0,
     5, 0x63, 0x6d, 0x72, 0x31, 0x30,
 ];

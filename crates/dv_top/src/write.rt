@@ -4,15 +4,17 @@ ghost use Rattle.std.specs.List.{sum};
 ghost use Rattle.positions.specs.Mark.{Mark};
 ghost use Rattle.dvi_doc.specs.Document.{PageOf};
 ghost use Rattle.dvi_doc.specs.View.{IsRead};
+ghost use Rattle.sections.specs.Planned.{UsesLast};
+ghost use Rattle.sections.specs.Used.{HasTaken};
 ghost use Rattle.vf_expand.specs.Grid.{State};
 ghost use Rattle.vf_expand.specs.Page.{IsPage, page_count, page_marks};
 ghost use Rattle.ps_emit.specs.Pages.{PrintedPage, page_calls, pages_calls, section_calls, sections_calls};
 ghost use Rattle.ps_emit.specs.Setup.{prologue_of, trailer_of};
 ghost use Rattle.ps_emit.specs.Shown.{Holds, comments_of, fonts_of, out_of, pass_of};
 ghost use Rattle.ps_emit.specs.Written.{Writes};
-ghost use Rattle.dv_top.specs.Printing.{in_sections, most_steps, printed_from, with_marks};
+ghost use Rattle.dv_top.specs.Printing.{in_sections, marks_of_each, most_steps, printed_from, with_marks};
 ghost use Rattle.dv_top.specs.Selecting.{ArePages};
-ghost use Rattle.dv_top.specs.Writing.{IsReady, IsWalkable};
+ghost use Rattle.dv_top.specs.Writing.{IsReady, IsWalkable, marks_in};
 
 use crate::label::label;
 use crate::plan::use_pages;
@@ -92,8 +94,38 @@ fn write_pages<T: Tray>(
     Ok(())
 }
 
-/// Writes the section with the pages at these places, of which the first has this number in the text.
+/// Writes the section with the pages at these places, of which the first has this number in the text, and of which it is known what they
+/// use.
 fn write_section<T: Tray>(
+    doc: &Doc<'_>,
+    places: &[u32],
+    first: u32,
+    fonts: &Fonts,
+    walker: &mut Walker,
+    usage: &Usage,
+    emitter: &mut Emitter<'_, T>,
+) -> Result<(), WriteFault>
+    requires walkable { IsWalkable doc.now places.now walker.old.grid fonts.now }
+    requires few { first + length places.now < 2 ^ 32 }
+    requires begun { 0 < (out_of emitter.old).seen.begun }
+    requires fonts { fonts_of emitter.old ≡ fonts.now }
+    requires given { usage.now.fonts ≡ length fonts.now.fonts }
+    requires uses { (pages : List PageOf) → ArePages doc.now places.now pages → HasTaken usage.now (marks_in walker.old.grid fonts.now doc.now.fonts pages) }
+    ensures writes { (pages : List PageOf) → ArePages doc.now places.now pages → (printed : List PrintedPage) → printed_from walker.old.grid fonts.now doc.now.fonts first pages ≡ Some printed
+        → Writes (section_calls (comments_of emitter.old) fonts.now (pass_of emitter.old) printed) (out_of emitter.old) (out_of emitter.new) result }
+    ensures holds { Holds emitter.old emitter.new }
+    ensures kept { walker.new.grid ≡ walker.old.grid }
+{
+    one_document();
+    usage_gives_fonts();
+    emitter.begin_section()?;
+    emitter.fonts(usage)?;
+    write_pages(doc, places, first, fonts, walker, emitter)?;
+    emitter.end_section()
+}
+
+/// Walks over the pages at these places for what they use, and writes their section.
+fn write_walked<T: Tray>(
     doc: &Doc<'_>,
     places: &[u32],
     first: u32,
@@ -113,20 +145,56 @@ fn write_section<T: Tray>(
     ensures given { usage.new.fonts ≡ length fonts.now.fonts }
     ensures kept { walker.new.grid ≡ walker.old.grid }
 {
-    one_document();
-    usage_gives_fonts();
     use_pages(doc, places, fonts, walker, usage);
-    emitter.begin_section()?;
-    emitter.fonts(usage)?;
-    write_pages(doc, places, first, fonts, walker, emitter)?;
-    emitter.end_section()
+    write_section(doc, places, first, fonts, walker, usage, emitter)
 }
 
-/// Writes the pages at these places in sections, of which each has so many of them.
+/// Writes the first of the pages at these places in sections, of which each has so many of them; answers how many pages these are.
+fn write_first<T: Tray>(
+    doc: &Doc<'_>,
+    places: &[u32],
+    plan: &[u32],
+    fonts: &Fonts,
+    walker: &mut Walker,
+    usage: &mut Usage,
+    emitter: &mut Emitter<'_, T>,
+) -> Result<usize, WriteFault>
+    requires walkable { IsWalkable doc.now places.now walker.old.grid fonts.now }
+    requires few { length places.now < 2 ^ 32 - 1 }
+    requires planned { sum plan.now ≤ length places.now }
+    requires begun { 0 < (out_of emitter.old).seen.begun }
+    requires fonts { fonts_of emitter.old ≡ fonts.now }
+    requires given { usage.old.fonts ≡ length fonts.now.fonts }
+    ensures writes { (pages : List PageOf) → ArePages doc.now places.now pages → (printed : List PrintedPage) → printed_from walker.old.grid fonts.now doc.now.fonts 1 pages ≡ Some printed
+        → Writes (sections_calls (comments_of emitter.old) fonts.now (pass_of emitter.old) (in_sections plan.now printed)) (out_of emitter.old) (out_of emitter.new) result }
+    ensures holds { Holds emitter.old emitter.new }
+    ensures done { IfOk result (λ n. n ≡ sum plan.now) }
+    ensures kept { walker.new.grid ≡ walker.old.grid }
+{
+    one_document();
+    let mut done = 0;
+    for count in plan {
+        let next = done + *count as usize;
+        write_walked(
+            doc,
+            &places[done..next],
+            done as u32 + 1,
+            fonts,
+            walker,
+            usage,
+            emitter,
+        )?;
+        done = next;
+    }
+    Ok(done)
+}
+
+/// Writes the pages at these places in sections, of which each has so many of them, and of which it is known what the last one uses.
 fn write_sections<T: Tray>(
     doc: &Doc<'_>,
     places: &[u32],
     plan: &[u32],
+    last: &Usage,
     fonts: &Fonts,
     walker: &mut Walker,
     usage: &mut Usage,
@@ -138,35 +206,38 @@ fn write_sections<T: Tray>(
     requires begun { 0 < (out_of emitter.old).seen.begun }
     requires fonts { fonts_of emitter.old ≡ fonts.now }
     requires given { usage.old.fonts ≡ length fonts.now.fonts }
+    requires last_given { last.now.fonts ≡ length fonts.now.fonts }
+    requires last { (pages : List PageOf) → ArePages doc.now places.now pages → UsesLast last.now plan.now (marks_of_each walker.old.grid fonts.now doc.now.fonts pages) }
     ensures writes { (pages : List PageOf) → ArePages doc.now places.now pages → (printed : List PrintedPage) → printed_from walker.old.grid fonts.now doc.now.fonts 1 pages ≡ Some printed
         → Writes (sections_calls (comments_of emitter.old) fonts.now (pass_of emitter.old) (in_sections plan.now printed)) (out_of emitter.old) (out_of emitter.new) result }
     ensures holds { Holds emitter.old emitter.new }
 {
     one_document();
-    let mut done = 0;
-    for count in plan {
-        let next = done + *count as usize;
-        write_section(
-            doc,
-            &places[done..next],
-            done as u32 + 1,
-            fonts,
-            walker,
-            usage,
-            emitter,
-        )?;
-        done = next;
+    if plan.len() == 0 {
+        return Ok(());
     }
-    Ok(())
+    let front = &plan[..plan.len() - 1];
+    let done = write_first(doc, places, front, fonts, walker, usage, emitter)?;
+    write_section(
+        doc,
+        &places[done..places.len()],
+        done as u32 + 1,
+        fonts,
+        walker,
+        last,
+        emitter,
+    )
 }
 
-/// What a text is made of: the setup, the bytes of its headers, the places of its pages, and how many of them each section has.
+/// What a text is made of: the setup, the bytes of its headers, the places of its pages, how many of them each section has, and what those
+/// of the last one use.
 #[derive(Drop)]
 pub struct Parts<'a> {
     pub setup: Setup,
     pub headers: Vec<Vec<u8>>,
     pub places: &'a [u32],
     pub plan: Plan,
+    pub last: Usage,
 }
 
 /// Writes the whole text.
@@ -184,6 +255,8 @@ fn write_text<T: Tray>(
     requires begun { 0 < (out_of emitter.old).seen.begun }
     requires fonts { fonts_of emitter.old ≡ fonts.now }
     requires given { usage.old.fonts ≡ length fonts.now.fonts }
+    requires last_given { parts.now.last.fonts ≡ length fonts.now.fonts }
+    requires last { (pages : List PageOf) → ArePages doc.now parts.now.places.now pages → UsesLast parts.now.last parts.now.plan (marks_of_each walker.old.grid fonts.now doc.now.fonts pages) }
     ensures writes { (pages : List PageOf) → ArePages doc.now parts.now.places.now pages → (printed : List PrintedPage) → printed_from walker.old.grid fonts.now doc.now.fonts 1 pages ≡ Some printed
         → Writes (prologue_of (comments_of emitter.old) parts.now.setup (map (λ h. h.items) parts.now.headers.items) ++ (sections_calls (comments_of emitter.old) fonts.now (pass_of emitter.old) (in_sections parts.now.plan printed) ++ trailer_of (comments_of emitter.old)))
         (out_of emitter.old) (out_of emitter.new) result }
@@ -195,6 +268,7 @@ fn write_text<T: Tray>(
         doc,
         parts.places,
         parts.plan.as_slice(),
+        &parts.last,
         fonts,
         walker,
         usage,
@@ -218,6 +292,8 @@ pub fn write_counted<T: Tray>(
     requires begun { 0 < (out_of emitter.old).seen.begun }
     requires fonts { fonts_of emitter.old ≡ fonts.now }
     requires given { usage.old.fonts ≡ length fonts.now.fonts }
+    requires last_given { parts.now.last.fonts ≡ length fonts.now.fonts }
+    requires last { (pages : List PageOf) → ArePages doc.now parts.now.places.now pages → UsesLast parts.now.last parts.now.plan (marks_of_each walker.old.grid fonts.now doc.now.fonts pages) }
     ensures writes { (pages : List PageOf) → ArePages doc.now parts.now.places.now pages → (printed : List PrintedPage) → printed_from walker.old.grid fonts.now doc.now.fonts 1 pages ≡ Some printed
         → Writes (prologue_of (comments_of emitter.old) parts.now.setup (map (λ h. h.items) parts.now.headers.items) ++ (sections_calls (comments_of emitter.old) fonts.now (pass_of emitter.old) (in_sections parts.now.plan printed) ++ trailer_of (comments_of emitter.old)))
         (out_of emitter.old) (out_of emitter.new) result }

@@ -6,8 +6,8 @@ const HELP: &str = "\
 texdvi: DVI documents with bitmap fonts
 
 texdvi dvips [OPTIONS] IN          prints IN.dvi as PostScript
-texdvi dvitype [OPTIONS] IN        is to list the commands of IN.dvi; refused as yet
-texdvi dvicopy [OPTIONS] IN [OUT]  is to copy IN.dvi without its virtual fonts; refused as yet
+texdvi dvitype [OPTIONS] IN        lists the commands of IN.dvi
+texdvi dvicopy [OPTIONS] IN [OUT]  copies IN.dvi without its virtual fonts
 texdvi sample N                    prints a sample of N pages, 1 to 1000, to sample.ps
 texdvi --help, texdvi --version    as the only word: this text, the version
 

@@ -13,7 +13,7 @@ returns-in_ok-bytes-in-Ready-clause-leaves g c = λ told p is.
     let seen = g.T.Tray.seen in
     let k = known c.one_document.ensures p c.args.doc.now c.args.parts.now c.args.walker.now c.args.fonts.now c.requires.job c.requires.walkable c.requires.few c.requires.known c.requires.rows c.requires.width c.requires.height is in
     written_whole p c.args.doc.now c.args.parts.now c.args.walker.now c.args.fonts.now k c.as_str.result.now c.as_str.ensures.value (seen c.args.tray.now) (seen c.begin.new.self) (seen c.write_output.new.tray)
-    c.text_shows.ensures c.in-Ready.ensures.gives c.in-Ready.ensures.messages (c.in_ok-bytes-in-Ready.ensures.writes k.pages k.are p.pages k.printed_are) _ refl (ap length c.as_slice.ensures) (c.in_ok-bytes-in-Ready.ensures.bytes k.pages k.are p.pages k.printed_are)
+    c.text_shows.ensures c.text_spares.ensures c.in-Ready.ensures.gives c.in-Ready.ensures.messages (c.in_ok-bytes-in-Ready.ensures.writes k.pages k.are p.pages k.printed_are) _ refl (ap length c.as_slice.ensures) (c.in_ok-bytes-in-Ready.ensures.bytes k.pages k.are p.pages k.printed_are)
 
 pub returns-in_ok-bytes-in-Ready-clause-later : goal.returns-in_ok-bytes-in-Ready-clause-later
 returns-in_ok-bytes-in-Ready-clause-later g c =
@@ -44,4 +44,4 @@ returns-in_err-bytes-in-Ready-clause-leaves g c =
     rw (q.1, q.2) (λ told p is.
     let k = known c.one_document.ensures p c.args.doc.now c.args.parts.now c.args.walker.now c.args.fonts.now c.requires.job c.requires.walkable c.requires.few c.requires.known c.requires.rows c.requires.width c.requires.height is in
     inl (written_front p c.args.doc.now c.args.parts.now c.args.walker.now c.args.fonts.now k c.as_str.result.now c.as_str.ensures.value (seen c.args.tray.now) (seen c.begin.new.self) (seen c.write_output.new.tray)
-    c.cut_text_shows.ensures c.in-Ready.ensures.gives c.in-Ready.ensures.messages (c.in_err-bytes-in-Ready.ensures.writes k.pages k.are p.pages k.printed_are)))
+    c.text_shows.ensures c.cut_text_shows.ensures c.text_spares.ensures c.cut_text_spares.ensures c.in-Ready.ensures.gives c.in-Ready.ensures.messages (c.in_err-bytes-in-Ready.ensures.writes k.pages k.are p.pages k.printed_are)))

@@ -1,5 +1,4 @@
-use Rattle.std.proofs.Common.{◌≡◌, ◌+◌, List, [], ◌∷◌, ℕ, true, false, ap, sym, ◌∙◌, map, subst}
-use Rattle.sections.specs.Below.{those_below}
+use Rattle.std.proofs.Common.{◌≡◌, List, [], ◌∷◌, ℕ, ap, sym, ◌∙◌, subst}
 use Rattle.dv_top.specs.Spoken.{SaysAll, says_more, says_none, says_one}
 use Rattle.dv_top.specs.Warnings.{checksum_line, is_mismatched}
 use Rattle.dv_top.proofs.Mismatched.{next_line, no_lines, same_lines}

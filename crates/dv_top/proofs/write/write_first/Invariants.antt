@@ -6,7 +6,7 @@ use Rattle.ps_emit.specs.Shown.{Holds, comments_of, out_of, pass_of}
 use Rattle.ps_emit.specs.Written.{Wrote}
 use Rattle.dv_top.specs.Printing.{in_sections, printed_from}
 use Rattle.dv_top.specs.Selecting.{ArePages}
-use Rattle.dv_top.proofs.write.write_sections.Given as goal
+use Rattle.dv_top.proofs.write.write_first.Given as goal
 
 abbrev pub invariant-loop-count : goal.invariant-loop-count
 invariant-loop-count g l =

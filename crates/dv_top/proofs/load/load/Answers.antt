@@ -3,7 +3,7 @@ use Rattle.std.proofs.lemmas.Result.{err_from_is_err_and}
 use Rattle.font_set.specs.Fonts.{FontSet}
 use Rattle.dv_top.specs.Loading.{GainsPages}
 use Rattle.dv_top.proofs.Ended.{numbered_of}
-use Rattle.dv_top.proofs.print.load.Goals as goal
+use Rattle.dv_top.proofs.load.load.Goals as goal
 
 pub returns-in_err-load_pages-clause-reason : goal.returns-in_err-load_pages-clause-reason
 returns-in_err-load_pages-clause-reason g c = λ pages are.
@@ -22,4 +22,4 @@ returns-clause-gains g c = λ pages are.
 
 pub returns-clause-numbered : goal.returns-clause-numbered
 returns-clause-numbered g c = λ pages are each.
-    numbered_of c.args.doc.now.fonts pages c.args.scale.now.units c.new-fonts.result c.load_pages.new.fonts c.new-fonts.ensures (c.in_ok-load_pages.ensures.orders pages are) each
+    numbered_of c.args.doc.now.fonts pages c.args.want c.args.scale.now.units c.new-fonts.result c.load_pages.new.fonts c.new-fonts.ensures (c.in_ok-load_pages.ensures.orders pages are) each
