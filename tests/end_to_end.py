@@ -4,8 +4,10 @@ import os
 import sys
 from fractions import Fraction
 
+import copies
 import documents as dvi
 import gathering
+import lists
 import options
 import printing
 import rows
@@ -153,7 +155,7 @@ def moves():
     prints("rules without ink", dvi.document([(1, none + dvi.set_rule(0, 0) + dvi.set_rule(-3, -15788))]), [(1, b"")])
 
 
-PARTS = options.PARTS + samples.PARTS + printing.PARTS + rows.PARTS + gathering.PARTS
+PARTS = options.PARTS + samples.PARTS + printing.PARTS + rows.PARTS + lists.PARTS + copies.PARTS + gathering.PARTS
 
 
 def main():

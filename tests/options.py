@@ -204,8 +204,6 @@ def words():
     with Folder(in_dvi=FOUR) as folder:
         for line, index in wrong:
             check(f"the words {line!r}", folder.run(*line.split()), (2, b"", b"texdvi: BadWords %d\n" % index))
-        for line in ("dvitype in", "dvitype -dpi=300 in", "dvicopy in out", "dvicopy -page-start 1 in"):  # tools that aren't there yet
-            check(f"the words {line!r}", folder.run(*line.split()), (2, b"", b"texdvi: BadWords 0\n"))
         check("65 headers", folder.run("dvips", *["-h", "a"] * 65, "in"), (2, b"", b"texdvi: BadWords 129\n"))
         check("words that write nothing", folder.get("a.ps"), None)
         for place in range(4):
