@@ -8,10 +8,9 @@ to 600. On a machine that does other work only the time of the processor tells s
 import os
 import shutil
 import sys
-import tempfile
 
 import pages
-from measuring import PROGRAM, line, measure, ratios
+from measuring import PROGRAM, in_scratch, line, measure, ratios
 
 RUNS = int(sys.argv[1]) if len(sys.argv) > 1 else 5
 # theirs look for fonts in the folder alone, and make none
@@ -37,21 +36,12 @@ def compared(tool, name, folder):
     return mine, other
 
 
-def main():
-    if not os.path.exists(PROGRAM):
-        print(f"{PROGRAM} is not there; build it first: (cd crates/texdvi && rt run)")
-        return 1
-    folder = tempfile.mkdtemp(prefix="texdvi-bench-")
-    try:
-        pages.write(folder)
-        for tool in TOOLS:
-            print(f"-- {tool}")
-            found = {name: compared(tool, name, folder)[0] for name in pages.DOCUMENTS}
-            print(f"twice the pages: {found['twice']['processor'] / found['book']['processor']:.2f} times the time")
-    finally:
-        shutil.rmtree(folder)
-    return 0
+def compare(folder):
+    for tool in TOOLS:
+        print(f"-- {tool}")
+        found = {name: compared(tool, name, folder)[0] for name in pages.DOCUMENTS}
+        print(f"twice the pages: {found['twice']['processor'] / found['book']['processor']:.2f} times the time")
 
 
 if __name__ == "__main__":
-    sys.exit(main())
+    sys.exit(in_scratch(pages.write, compare))

@@ -3,6 +3,7 @@
 import os
 import shutil
 import subprocess
+import tempfile
 import time
 
 TOP = os.path.dirname(os.path.dirname(os.path.abspath(__file__)))
@@ -69,3 +70,18 @@ def line(name, tool, found):
 
 def ratios(name, ours, theirs):
     return f"{name:8} ratio     {ours['seconds'] / theirs['seconds']:8.2f}   {ours['processor'] / theirs['processor']:8.2f}"
+
+
+def in_scratch(write, compare):
+    """Lets `write` put its documents into a scratch folder and `compare` run the programs there; the exit status. Without the built program
+    nothing is done."""
+    if not os.path.exists(PROGRAM):
+        print(f"{PROGRAM} is not there; build it first: (cd crates/texdvi && rt run)")
+        return 1
+    folder = tempfile.mkdtemp(prefix="texdvi-bench-")
+    try:
+        write(folder)
+        compare(folder)
+    finally:
+        shutil.rmtree(folder)
+    return 0

@@ -5,35 +5,24 @@ written, the number of write calls where strace is installed, and our times over
 the time of the processor tells something.
 """
 
-import os
 import shutil
 import sys
-import tempfile
 
 import files
-from measuring import PROGRAM, line, measure, ratios
+from measuring import PROGRAM, in_scratch, line, measure, ratios
 
 RUNS = int(sys.argv[1]) if len(sys.argv) > 1 else 9
 
 
-def main():
-    if not os.path.exists(PROGRAM):
-        print(f"{PROGRAM} is not there; build it first: (cd crates/texdvi && rt run)")
-        return 1
-    folder = tempfile.mkdtemp(prefix="texdvi-bench-")
-    try:
-        files.write(folder)
-        for name in files.FILES:
-            ours = measure([PROGRAM, "dvips", "-D", "300", "-o", "ours.ps", name], folder, "ours.ps", RUNS)
-            print(line(name, "texdvi", ours))
-            if shutil.which("dvips"):
-                theirs = measure(["dvips", "-q", "-D", "300", "-o", "theirs.ps", name], folder, "theirs.ps", RUNS)
-                print(line(name, "dvips", theirs))
-                print(ratios(name, ours, theirs))
-    finally:
-        shutil.rmtree(folder)
-    return 0
+def compare(folder):
+    for name in files.FILES:
+        ours = measure([PROGRAM, "dvips", "-D", "300", "-o", "ours.ps", name], folder, "ours.ps", RUNS)
+        print(line(name, "texdvi", ours))
+        if shutil.which("dvips"):
+            theirs = measure(["dvips", "-q", "-D", "300", "-o", "theirs.ps", name], folder, "theirs.ps", RUNS)
+            print(line(name, "dvips", theirs))
+            print(ratios(name, ours, theirs))
 
 
 if __name__ == "__main__":
-    sys.exit(main())
+    sys.exit(in_scratch(files.write, compare))
