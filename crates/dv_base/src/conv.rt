@@ -69,13 +69,15 @@ fn quotient(above: u128, below: u128) -> u128
 }
 
 /// Whether the whole part of a quotient is from `least` to `most`, by products alone.
+// Each of them is of two numbers of 64 bits, so the processor takes one step for it.
 #[inline(always)]
-fn is_between(above: u128, below: u128, least: u64, most: u64) -> bool
+fn is_between(above: u128, below: u64, least: u64, most: u64) -> bool
     requires below { below < 2 ^ 62 }
     requires some { 0 < below }
     requires most { most < 2 ^ 63 }
     ensures { IsTrue result ↔ ((least ≤ above / below) × (above / below ≤ most)) }
 {
+    let below = u128::from(below);
     u128::from(least) * below <= above && above < u128::from(most + 1) * below
 }
 
@@ -131,13 +133,10 @@ impl Conv {
             return false;
         }
         let least = (n - drift).max(0);
-        let above = 2 * u128::from(length) * self.top + self.bottom;
-        is_between(
-            above,
-            2 * self.bottom,
-            least.unsigned_abs(),
-            most.unsigned_abs(),
-        )
+        // both are below 2^60
+        let (top, bottom) = (self.top as u64, self.bottom as u64);
+        let above = u128::from(2 * length) * u128::from(top) + u128::from(bottom);
+        is_between(above, 2 * bottom, least.unsigned_abs(), most.unsigned_abs())
     }
 
     /// Whether `n` pixels are at most `drift` from the length `x`, rounded to the nearest whole number. It takes products and no
