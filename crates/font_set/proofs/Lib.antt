@@ -19,6 +19,7 @@ pub mod Gaining
 pub mod Telling
 pub mod Faulting
 pub mod Steps
+pub mod Glyphs
 pub mod States
 pub mod Turning
 pub mod Skimming

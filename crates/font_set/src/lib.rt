@@ -23,6 +23,7 @@ mod load;
 mod load_tests;
 mod local;
 mod look;
+mod quick;
 mod skim;
 #[cfg(test)]
 mod tests;

@@ -296,6 +296,10 @@ impl Fonts {
         if ahead.at >= ahead.end {
             return Ok(());
         }
+        let ran = self.run_quick(sheet, &ahead, agenda)?;
+        if ran {
+            return Ok(());
+        }
         self.run_command(shelf, sheet, &ahead, agenda)
     }
 
@@ -388,7 +392,7 @@ fn first_place(sheet: &Sheet<'_>) -> Place
 }
 
 /// A place further on in the same frame.
-fn moved(place: &Place, at: usize, font: Option<u32>) -> Place
+pub(crate) fn moved(place: &Place, at: usize, font: Option<u32>) -> Place
     ensures { result ≡ record { home = place.now.home; at = at; end = place.now.end; font = font } }
 {
     let home = place.home;

@@ -64,7 +64,7 @@ impl<'a> Model for Sheet<'a> {
 
 impl<'a> Sheet<'a> {
     /// The key that a number names in the page, where it names one.
-    fn font(&self, k: i64) -> Option<FontKey>
+    pub(crate) fn font(&self, k: i64) -> Option<FontKey>
         ensures { KeyAnswer self.now.page.scope.fonts k result }
     {
         match self.doc.font(k) {

@@ -1,0 +1,14 @@
+use Rattle.std.proofs.Common.{ap, sym, ◌∙◌, true≢false}
+use Rattle.std.specs.Prelude.{is_some}
+use Rattle.font_set.specs.Fonts.{State, packet_at, packet_in}
+use Rattle.font_set.specs.Stored.{state_of}
+use Rattle.font_set.proofs.Showing.{shown_real}
+use Rattle.font_set.proofs.fonts.Fonts.is_glyph.Goals as goal
+
+pub returns-in-Real-clause-shown : goal.returns-in-Real-clause-shown
+returns-in-Real-clause-shown c = λ drawn.
+    shown_real c.args.self.now c.args.id c.args.code c.in-Real.tfm c.in-Real.pk (ap state_of (sym c.in-Real.is) ∙ c.font.ensures.value) (λ none. true≢false (sym c.if-is_none.ensures ∙ ap is_some (c.width.ensures.value ∙ none))) (c.is_drawn.ensures drawn)
+
+pub returns-in-Real-clause-real : goal.returns-in-Real-clause-real
+unfolding packet_at
+returns-in-Real-clause-real c = λ drawn. ap (λ (s : State). packet_in s c.args.code) (sym (ap state_of (sym c.in-Real.is) ∙ c.font.ensures.value))
