@@ -1,3 +1,4 @@
+pub mod Kept
 pub mod Walk
 pub mod TreeLaws
 pub mod Sizes
@@ -14,6 +15,7 @@ pub mod Turns
 pub mod Expansion
 pub mod Packets
 mod Rooms
+mod Quick
 mod Amounts
 mod Selecting
 pub mod Paging

@@ -1,6 +1,7 @@
 pub mod Commands
 pub mod Meaning
 pub mod Grid
+pub mod Past
 pub mod Wide
 pub mod Marks
 pub mod Turn
@@ -11,6 +12,7 @@ pub mod Causes
 pub mod Homes
 pub mod Shown
 pub mod Shallow
+pub mod Quick
 pub mod Page
 pub mod Faultless
 pub mod Given

@@ -1,10 +1,13 @@
--- How wide the glyphs of real fonts are.
-use Rattle.std.specs.Prelude.{◌≡◌, ◌<◌, ◌≤◌, ◌+◌, ◌*◌, ◌%◌, ◌^◌, ℕ, List, Option, Some, None, slice_get, unsigned_abs}
+-- How wide characters are, which are glyphs, and in which fonts the packets of virtual ones begin.
+use Rattle.std.specs.Prelude.{Bool, true, false, ◌≡◌, ◌<◌, ◌≤◌, ◌+◌, ◌*◌, ◌%◌, ◌^◌, ℕ, List, Option, Some, None, slice_get, unsigned_abs}
 use Rattle.dv_base.specs.Rounding.{rounded}
 use Rattle.font_set.specs.Fonts.{FontSet, width_at, packet_at}
+use Rattle.font_set.specs.Programs.{id_of, key_of_first, head_of, locals_at}
 use Rattle.vf_expand.specs.Grid.{Grid}
 use Rattle.vf_expand.specs.declared.grid.Wide.{Wide}
-use Rattle.vf_expand.specs.declared.glyphs.Met.{Met}
+use Rattle.vf_expand.specs.declared.met.Glyphs.{Glyphs}
+use Rattle.vf_expand.specs.declared.met.Met.{Met}
+use Rattle.vf_expand.specs.declared.met.Start.{Start}
 
 -- the pixels are those of the width, rounded
 pub record IsWide (g : Grid) (w : Wide) : Type 0 where
@@ -12,32 +15,39 @@ pub record IsWide (g : Grid) (w : Wide) : Type 0 where
   pub width_bound : unsigned_abs w.width < 2 ^ 32
   pub pixels_bound : unsigned_abs w.pixels < 2 ^ 32
 
--- the character of this code is a glyph of this font, and so wide
-pub record IsGlyph (g : Grid) (set : FontSet) (font code : ℕ) (w : Wide) : Type 0 where
+-- a glyph has no packet, and what is no glyph has one
+abbrev pub IsKind : Bool → Option (List ℕ) → Type 0
+IsKind true packet = packet ≡ None
+IsKind false packet = packet ≡ None → ⊥
+
+-- the character of this code is one of this font, and so wide
+pub record IsChar (g : Grid) (set : FontSet) (font code : ℕ) (glyph : Bool) (w : Wide) : Type 0 where
   pub width : width_at set font code ≡ Some w.width
-  pub real : packet_at set font code ≡ None
+  pub kind : IsKind glyph (packet_at set font code)
   pub wide : IsWide g w
 
--- where a glyph is kept
+-- where a character is kept
 abbrev pub slot_of : ℕ → ℕ → ℕ
-slot_of font code = font % 8 * 256 + code
+slot_of font code = font % 16 * 256 + code
 
--- What stands in a slot: nothing, or what was met on another page, or a glyph of this page.
+-- the font in which the packets of a font begin
+abbrev pub start_of : FontSet → ℕ → Option ℕ
+start_of set font = id_of set (key_of_first (head_of (locals_at set font)))
+
+-- What stands in a slot: nothing, or what was met on another page, or a character of this page.
 abbrev pub IsMet : Grid → FontSet → ℕ → ℕ → Option (Option Met) → Type 0
 IsMet g set page slot None = Unit {0}
 IsMet g set page slot (Some None) = Unit {0}
-IsMet g set page slot (Some (Some m)) = m.page ≡ page → IsGlyph g set m.font (slot % 256) m.wide
+IsMet g set page slot (Some (Some m)) = m.page ≡ page → IsChar g set m.font (slot % 256) m.glyph m.wide
 
--- What was met on this page and is kept is a glyph of the font that is named with it, and of its slot's code.
-pub record AreMet (g : Grid) (set : FontSet) (page : ℕ) (ms : List (Option Met)) : Type 0 where
-  pub each : (slot : ℕ) → IsMet g set page slot (slice_get ms slot)
+-- The same of the slot of a virtual font.
+abbrev pub IsStart : FontSet → ℕ → Option (Option Start) → Type 0
+IsStart set page None = Unit {0}
+IsStart set page (Some None) = Unit {0}
+IsStart set page (Some (Some s)) = s.page ≡ page → Some s.first ≡ start_of set s.font
 
--- the page on which what is kept was met
-abbrev pub page_in : Option (Option Met) → ℕ
-page_in None = 0
-page_in (Some None) = 0
-page_in (Some (Some m)) = m.page
-
--- what is kept was met on this page or on one before it
-pub record AreOfPages (page : ℕ) (ms : List (Option Met)) : Type 0 where
-  pub each : (slot : ℕ) → page_in (slice_get ms slot) ≤ page
+-- What was met on this page and is kept is true: of the character of the font that is named with it and of its slot's code, and of the font in
+-- which the packets of a virtual one begin.
+pub record AreMet (g : Grid) (set : FontSet) (gs : Glyphs) : Type 0 where
+  pub each : (slot : ℕ) → IsMet g set gs.page slot (slice_get gs.met.items slot)
+  pub starts : (slot : ℕ) → IsStart set gs.page (slice_get gs.starts.items slot)

@@ -1,43 +1,63 @@
-//! Widths of glyphs that were met.
-ghost use Rattle.std.specs.Prelude.{◌≡◌, ◌<◌, ◌≤◌, Some, None, IfOk, IfSome, MatchOption, length, slice_get, vec_len};
-ghost use Rattle.std.specs.List.{All};
-ghost use Rattle.font_set.specs.Fonts.{FontSet, width_at, packet_at};
+//! Looks at characters and virtual fonts that were met.
+ghost use Rattle.std.specs.Prelude.{◌≡◌, ◌<◌, true, None, IfOk, IfSome, List, length, vec_len};
+ghost use Rattle.dvi_ops.specs.Placed.{Placed};
+ghost use Rattle.font_set.specs.Fonts.{FontSet, width_at};
+ghost use Rattle.font_set.specs.Programs.{first_font};
 ghost use Rattle.vf_expand.specs.Grid as grid;
-ghost use Rattle.vf_expand.specs.Wide.{IsGlyph, AreMet, AreOfPages, slot_of};
+ghost use Rattle.vf_expand.specs.Homes.{IsGiven, program_in};
+ghost use Rattle.vf_expand.specs.Past.{AreOfPages, AreStartsOfPages};
+ghost use Rattle.vf_expand.specs.Wide.{IsChar, AreMet, slot_of, start_of};
 
 use crate::grid::{Grid, Wide};
+use crate::home::{Frame, Home};
+use crate::met::{Glyphs, Met, Start};
 use dv_base::FontId;
 use font_set::Fonts;
 use std::alloc::{AllocError, Global};
 
-/// How many glyphs are kept: of eight fonts one for each code.
-const SLOTS: usize = 2_048;
+/// How many characters are kept: of sixteen fonts one for each code.
+const SLOTS: usize = 4_096;
 
-/// A glyph that was met: on which page, its font, and how wide it is.
-#[derive(Clone, Copy)]
-pub struct Met {
-    pub page: u32,
-    pub font: FontId,
-    pub wide: Wide,
-}
+/// How many virtual fonts are kept.
+const STARTS: usize = 16;
 
-/// Where a glyph is kept: fonts whose numbers differ by less than eight are kept beside one another.
+/// Where a character is kept: fonts whose numbers differ by less than sixteen are kept beside one another.
 fn slot_of(font: FontId, code: u8) -> usize
     ensures value { result ≡ slot_of font code }
-    ensures inside { result < 2048 }
+    ensures inside { result < 4096 }
 {
-    (font.number() % 8) as usize * 256 + usize::from(code)
+    (font.number() % 16) as usize * 256 + usize::from(code)
 }
 
-/// Of each slot the glyph that was met last: most characters of a page are met again soon, and then nothing is looked up.
-///
-/// Those that were met on other pages don't count: so a new page forgets all glyphs, and none has to be cleared.
-#[derive(Drop)]
-pub struct Glyphs {
-    pub page: u32,
-    pub met: Vec<Option<Met>>,
-    ghost slots: { vec_len met ≡ 2048 },
-    ghost past: { AreOfPages page met.items },
+/// Whether a character is a glyph, or else has a packet, and how wide it is.
+fn character(grid: &Grid, fonts: &Fonts, font: FontId, code: u8) -> (bool, Wide)
+    requires given { font < length fonts.now.fonts }
+    requires there { width_at fonts.now font code ≡ None → ⊥ }
+    ensures { IsChar grid.now fonts.now font code result.0 result.1 }
+{
+    let Some(width) = fonts.width(font, code) else {
+        unreachable!()
+    };
+    let glyph = fonts.packet(font, code).is_none();
+    (glyph, grid.wide(width))
+}
+
+/// Slots in which no character is kept.
+fn no_characters(alloc: Global) -> Result<Vec<Option<Met>>, AllocError>
+    ensures slots { IfOk result (λ met. vec_len met ≡ 4096) }
+    ensures pages { IfOk result (λ met. AreOfPages 0 met.items) }
+{
+    let met = vec![in alloc; None; SLOTS]?;
+    Ok(met)
+}
+
+/// Slots in which no virtual font is kept.
+fn no_starts(alloc: Global) -> Result<Vec<Option<Start>>, AllocError>
+    ensures slots { IfOk result (λ starts. vec_len starts ≡ 16) }
+    ensures pages { IfOk result (λ starts. AreStartsOfPages 0 starts.items) }
+{
+    let starts = vec![in alloc; None; STARTS]?;
+    Ok(starts)
 }
 
 impl Glyphs {
@@ -45,58 +65,114 @@ impl Glyphs {
     pub fn new(alloc: Global) -> Result<Glyphs, AllocError> {
         Ok(Glyphs {
             page: 0,
-            met: vec![in alloc; None; SLOTS]?,
+            met: no_characters(alloc)?,
+            starts: no_starts(alloc)?,
         })
     }
 
-    /// Forgets all glyphs.
+    /// Forgets all of them.
     pub fn clear(&mut self)
-        ensures { (g : grid.Grid) (set : FontSet) → AreMet g set self.new.page self.new.met.items }
+        ensures { (g : grid.Grid) (set : FontSet) → AreMet g set self.new }
     {
         if self.page == u32::MAX {
             self.met.fill(None);
+            self.starts.fill(None);
             self.page = 0;
         } else {
             self.page += 1;
         }
     }
 
-    /// How wide the glyph of a character is; `None` exactly where the character is one of a virtual font.
+    /// Whether a character is a glyph, or else has a packet, and how wide it is.
     #[inline(always)]
-    pub fn find(&mut self, grid: &Grid, fonts: &Fonts, font: FontId, code: u8) -> Option<Wide>
+    pub fn find(&mut self, grid: &Grid, fonts: &Fonts, font: FontId, code: u8) -> (bool, Wide)
         requires given { font < length fonts.now.fonts }
         requires there { width_at fonts.now font code ≡ None → ⊥ }
-        requires met { AreMet grid.now fonts.now self.old.page self.old.met.items }
-        ensures value { MatchOption result (packet_at fonts.now font code ≡ None → ⊥) (λ wide. IsGlyph grid.now fonts.now font code wide) }
-        ensures met { AreMet grid.now fonts.now self.new.page self.new.met.items }
+        requires met { AreMet grid.now fonts.now self.old }
+        ensures value { IsChar grid.now fonts.now font code result.0 result.1 }
+        ensures met { AreMet grid.now fonts.now self.new }
     {
         match self.met[slot_of(font, code)] {
-            Some(met) if met.font == font && met.page == self.page => Some(met.wide),
+            Some(met) if met.font == font && met.page == self.page => (met.glyph, met.wide),
             _ => self.look_up(grid, fonts, font, code),
         }
     }
 
-    /// The same of a glyph that isn't kept; it is kept then.
-    #[inline(never)]
-    fn look_up(&mut self, grid: &Grid, fonts: &Fonts, font: FontId, code: u8) -> Option<Wide>
-        requires given { font < length fonts.now.fonts }
-        requires there { width_at fonts.now font code ≡ None → ⊥ }
-        requires met { AreMet grid.now fonts.now self.old.page self.old.met.items }
-        ensures value { MatchOption result (packet_at fonts.now font code ≡ None → ⊥) (λ wide. IsGlyph grid.now fonts.now font code wide) }
-        ensures met { AreMet grid.now fonts.now self.new.page self.new.met.items }
+    /// How wide a character is that is kept and is a glyph.
+    #[inline(always)]
+    pub fn kept(&self, font: FontId, code: u8) -> Option<Wide>
+        ensures { (g : grid.Grid) (set : FontSet) → AreMet g set self.now → IfSome result (λ wide. IsChar g set font code true wide) }
     {
-        if fonts.packet(font, code).is_some() {
-            return None;
+        match self.met[slot_of(font, code)] {
+            Some(met) if met.font == font && met.page == self.page && met.glyph => Some(met.wide),
+            _ => None,
         }
-        let Some(width) = fonts.width(font, code) else {
-            unreachable!()
-        };
-        let wide = grid.wide(width);
+    }
+
+    /// Keeps a character.
+    fn keep(&mut self, font: FontId, code: u8, glyph: bool, wide: Wide)
+        ensures { (g : grid.Grid) (set : FontSet) → AreMet g set self.old → IsChar g set font code glyph wide → AreMet g set self.new }
+    {
         self.met[slot_of(font, code)] = Some(Met {
             page: self.page,
             font,
+            glyph,
             wide,
         });
-        Some(wide)
+    }
+
+    /// The same of a character that isn't kept; it is kept then.
+    #[inline(never)]
+    fn look_up(&mut self, grid: &Grid, fonts: &Fonts, font: FontId, code: u8) -> (bool, Wide)
+        requires given { font < length fonts.now.fonts }
+        requires there { width_at fonts.now font code ≡ None → ⊥ }
+        requires met { AreMet grid.now fonts.now self.old }
+        ensures value { IsChar grid.now fonts.now font code result.0 result.1 }
+        ensures met { AreMet grid.now fonts.now self.new }
+    {
+        let (glyph, wide) = character(grid, fonts, font, code);
+        self.keep(font, code, glyph, wide);
+        (glyph, wide)
+    }
+
+    /// The font in which the packets of a font begin.
+    fn start(&mut self, fonts: &Fonts, font: FontId) -> Option<FontId>
+        requires given { font < length fonts.now.fonts }
+        ensures value { (g : grid.Grid) → AreMet g fonts.now self.old → result ≡ start_of fonts.now font }
+        ensures met { (g : grid.Grid) → AreMet g fonts.now self.old → AreMet g fonts.now self.new }
+    {
+        match self.starts[(font.number() % 16) as usize] {
+            Some(start) if start.font == font && start.page == self.page => Some(start.first),
+            _ => self.look_up_start(fonts, font),
+        }
+    }
+
+    /// The same of a font that isn't kept; it is kept then.
+    #[inline(never)]
+    fn look_up_start(&mut self, fonts: &Fonts, font: FontId) -> Option<FontId>
+        requires given { font < length fonts.now.fonts }
+        ensures value { result ≡ start_of fonts.now font }
+        ensures met { (g : grid.Grid) → AreMet g fonts.now self.old → AreMet g fonts.now self.new }
+    {
+        let first = fonts.first_local(font)?;
+        self.starts[(font.number() % 16) as usize] = Some(Start {
+            page: self.page,
+            font,
+            first,
+        });
+        Some(first)
+    }
+
+    /// The font in which a frame begins.
+    pub fn first(&mut self, frame: &Frame<'_>) -> Option<FontId>
+        requires given { IsGiven frame.now.fonts.now frame.now.home }
+        requires met { AreMet frame.now.grid frame.now.fonts.now self.old }
+        ensures value { (cs : List Placed) → result ≡ first_font frame.now.fonts.now (program_in frame.now cs) }
+        ensures met { AreMet frame.now.grid frame.now.fonts.now self.new }
+    {
+        match frame.home {
+            Home::Page { .. } => None,
+            Home::Packet { font, .. } => self.start(frame.fonts, font),
+        }
     }
 }

@@ -1,5 +1,5 @@
 //! What turns units into pixels.
-ghost use Rattle.std.specs.Prelude.{◌≡◌, ◌<◌, ◌^◌, ◌+ℤ◌, pos, ◌<ℤ◌, OnOk, OnErr, Some, None, unsigned_abs};
+ghost use Rattle.std.specs.Prelude.{◌≡◌, ◌<◌, ◌^◌, ◌+ℤ◌, pos, ◌<ℤ◌, OnOk, OnErr, IsTrue, Some, None, unsigned_abs};
 ghost use Rattle.positions.specs.Drift.{IsDrift, IsSpace};
 ghost use Rattle.positions.specs.MarkOf.{rule_of, glyph_of};
 ghost use Rattle.vf_expand.specs.Marks.{right_by, down_by, past_rule, past_char, rule_at};
@@ -39,6 +39,17 @@ impl Model for Grid {
 pub struct Wide {
     pub width: i64,
     pub pixels: i64,
+}
+
+impl Wide {
+    /// Whether the place behind a character is within the limit.
+    #[inline(always)]
+    pub fn fits(&self, here: &Pos) -> bool
+        requires { unsigned_abs self.now.width < 2 ^ 32 }
+        ensures { IsTrue result → IsLarge (here.now.h +ℤ self.now.width) → ⊥ }
+    {
+        (here.h + self.width).unsigned_abs() < 1 << 31
+    }
 }
 
 impl Grid {

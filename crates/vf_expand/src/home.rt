@@ -77,17 +77,6 @@ impl<'a> Frame<'a> {
         }
     }
 
-    /// The font in which the frame begins.
-    pub fn first(&self) -> Option<FontId>
-        requires given { IsGiven self.now.fonts.now self.now.home }
-        ensures { (cs : List Placed) → result ≡ first_font self.now.fonts.now (program_in self.now cs) }
-    {
-        match self.home {
-            Home::Page { .. } => None,
-            Home::Packet { font, .. } => self.fonts.first_local(font),
-        }
-    }
-
     /// The units of an amount in the frame's commands.
     pub fn amount(&self, q: i32) -> i64
         requires given { IsGiven self.now.fonts.now self.now.home }

@@ -18,11 +18,12 @@ mod grid;
 mod home;
 mod laws;
 mod mark_laws;
+mod met;
+mod nop;
 mod paint;
 mod plain;
 mod run;
 mod shift;
-mod short;
 mod walker;
 
 pub use fault::WalkFault;

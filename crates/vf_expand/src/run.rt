@@ -1,7 +1,8 @@
 //! The walk over a page's bytes, through the packets that it runs.
-ghost use Rattle.std.specs.Prelude.{◌≡◌, ◌+◌, ◌<◌, ◌≤◌, ◌^◌, pos, List, [], ◌∷◌, Option, length, take, vec_len, vec_capacity, OnOk, IfOk, IfErr, Some, None, unsigned_abs};
+ghost use Rattle.std.specs.Prelude.{◌≡◌, ◌+◌, ◌<◌, ◌≤◌, ◌^◌, pos, List, [], ◌∷◌, Option, length, take, vec_len, vec_capacity, OnOk, IfOk, IfErr, IfSome, Some, None, unsigned_abs};
 ghost use Rattle.positions.specs.Conditions.{SameCondition};
 ghost use Rattle.dvi_ops.specs.Placed.{Placed, Lexes};
+ghost use Rattle.dvi_ops.specs.Command.Command.{Set};
 ghost use Rattle.dvi_ops.specs.View.{view};
 ghost use Rattle.font_set.specs.Key.{Key};
 ghost use Rattle.font_set.specs.Programs.{id_of, select};
@@ -14,6 +15,8 @@ ghost use Rattle.vf_expand.specs.Pages.{chars};
 ghost use Rattle.vf_expand.specs.Marks.{marks_alone};
 ghost use Rattle.vf_expand.specs.Painted.{HasGlyph};
 ghost use Rattle.vf_expand.specs.Wide.{IsWide, AreMet};
+ghost use Rattle.vf_expand.specs.Quick.{IsQuick};
+ghost use Rattle.vf_expand.specs.declared.fault.WalkFault.TheVariants as fault;
 ghost use Rattle.vf_expand.specs.Turn.{turned, turn_marks, open_at};
 ghost use Rattle.vf_expand.specs.Takes.{Took, TookPage, TookChar, FollowsTurn, Stops, char_marks};
 ghost use Rattle.vf_expand.specs.Homes.{first_of, spot_of, scope_in, program_in, meaning_in, marks_in, count_in, IsGiven, IsFont, IsReady, IsTurnReady, IsCharReady};
@@ -21,12 +24,12 @@ ghost use Rattle.vf_expand.specs.Causes.{IsCause, IsTurnCause, IsMany, inside};
 ghost use Rattle.vf_expand.specs.Shallow.{FindsRoom, PacketFinds, IsShallow};
 
 use crate::fault::{Halt, WalkFault};
-use crate::glyphs::Glyphs;
 use crate::grid::Wide;
 use crate::home::{Frame, Home, inner};
+use crate::met::Glyphs;
+use crate::nop::nop_at;
 use crate::paint::put_glyph;
 use crate::plain::plain;
-use crate::short::short_cmd;
 use dv_base::{FontId, Spot};
 use dvi_ops::{Cmd, next_cmd, one_reading, one_spelling};
 use positions::{Canvas, Passed, Pos};
@@ -87,7 +90,7 @@ impl Run {
         requires base { frame.now.base ≡ vec_len self.old.saved }
         requires short { first_of frame.now.home + length bytes.now < 2 ^ 31 }
         requires ready { (cs : List Placed) × Lexes (first_of frame.now.home) bytes.now cs × AllInner cs × IsReady C.can frame.now canvas.old cs start }
-        requires met { AreMet frame.now.grid frame.now.fonts.now self.old.glyphs.page self.old.glyphs.met.items }
+        requires met { AreMet frame.now.grid frame.now.fonts.now self.old.glyphs }
         ensures ok { (cs : List Placed) → Lexes (first_of frame.now.home) bytes.now cs → OnOk result (TookPage (Took (HasGlyph frame.now.grid frame.now.fonts.now) C.takes) canvas.old canvas.new (marks_in frame.now cs start)) }
         ensures stops { (cs : List Placed) → Lexes (first_of frame.now.home) bytes.now cs → IfErr result (Stops C.takes C.refuses canvas.old canvas.new (marks_alone (marks_in frame.now cs start))) }
         ensures cause { (cs : List Placed) → Lexes (first_of frame.now.home) bytes.now cs → IfErr result (IsCause frame.now.grid frame.now.fonts.now frame.now.nest (program_in frame.now cs) start (λ at. spot_of frame.now.home at) (first_of frame.now.home + length bytes.now) frame.now.base) }
@@ -95,18 +98,27 @@ impl Run {
         ensures many { (cs : List Placed) → Lexes (first_of frame.now.home) bytes.now cs → IfErr result (IsMany (self.old.steps + count_in frame.now cs)) }
         ensures room { (cs : List Placed) → Lexes (first_of frame.now.home) bytes.now cs → OnOk result (IsShallow frame.now.grid frame.now.fonts.now frame.now.nest (program_in frame.now cs) start frame.now.base) }
         ensures stack { OnOk result (self.new.saved.items ≡ self.old.saved.items) }
-        ensures met { OnOk result (AreMet frame.now.grid frame.now.fonts.now self.new.glyphs.page self.new.glyphs.met.items) }
+        ensures met { OnOk result (AreMet frame.now.grid frame.now.fonts.now self.new.glyphs) }
         ensures same { OnOk result (SameCondition C.can canvas.old canvas.new) }
     {
         one_spelling();
         let mut pos = start;
-        let mut font = frame.first();
+        let mut font = self.glyphs.first(frame);
         let mut at = 0;
         while at < bytes.len() {
-            if let Some(cmd) = short_cmd(bytes, at) {
+            if let Some(cmd) = nop_at(bytes, at) {
                 let spot = frame.home.spot(at);
                 at += 1;
                 self.turn(frame, &cmd, spot, &mut pos, &mut font, canvas)?;
+                continue;
+            }
+            let op = bytes[at];
+            if let Some((id, wide)) = self.quick(frame, op, font, &pos) {
+                match self.set(frame, id, op, &wide, &mut pos, canvas) {
+                    Ok(()) => {}
+                    Err(f) => return Err(WalkFault::Canvas(f)),
+                }
+                at += 1;
                 continue;
             }
             match next_cmd(bytes, at) {
@@ -123,6 +135,63 @@ impl Run {
         } else {
             Err(WalkFault::StackLeft(frame.home.spot(bytes.len())))
         }
+    }
+
+    /// The font and the width of the character in one byte, where its glyph is kept and nothing stops it.
+    // Most of a page is such characters: no command and no fault is made for them.
+    #[inline(always)]
+    fn quick(
+        &self,
+        frame: &Frame<'_>,
+        op: u8,
+        font: Option<FontId>,
+        here: &Pos,
+    ) -> Option<(FontId, Wide)>
+        requires met { AreMet frame.now.grid frame.now.fonts.now self.now.glyphs }
+        ensures { IfSome result (IsQuick frame.now self.now.steps op font here.now) }
+    {
+        let id = font?;
+        if op >= 128 || self.steps >= MOST_STEPS {
+            return None;
+        }
+        let wide = self.glyphs.kept(id, op)?;
+        if wide.fits(here) {
+            Some((id, wide))
+        } else {
+            None
+        }
+    }
+
+    /// Sets such a character.
+    #[inline(always)]
+    fn set<C: Canvas>(
+        &mut self,
+        frame: &Frame<'_>,
+        id: FontId,
+        op: u8,
+        wide: &Wide,
+        here: &mut Pos,
+        canvas: &mut C,
+    ) -> Result<(), C::Fault>
+        requires base { frame.now.base ≤ vec_len self.old.saved }
+        requires quick { IsQuick frame.now self.old.steps op (Some id) here.old (id, wide.now) }
+        requires ready { IsTurnReady C.can frame.now canvas.old (Set (pos op)) (Some id) (turn_marks (turned (meaning_in frame.now) (Set (pos op)) (open_at frame.now.base self.old.saved.items) (record { place = here.old; font = Some id }))) }
+        requires met { AreMet frame.now.grid frame.now.fonts.now self.old.glyphs }
+        ensures ok { OnOk result (FollowsTurn (Took (HasGlyph frame.now.grid frame.now.fonts.now) C.takes) canvas.old canvas.new (open_at frame.now.base self.new.saved.items) (record { place = here.new; font = Some id }) (turned (meaning_in frame.now) (Set (pos op)) (open_at frame.now.base self.old.saved.items) (record { place = here.old; font = Some id }))) }
+        ensures stops { IfErr result (λ f. Stops C.takes C.refuses canvas.old canvas.new (turn_marks (turned (meaning_in frame.now) (Set (pos op)) (open_at frame.now.base self.old.saved.items) (record { place = here.old; font = Some id }))) (fault.Canvas f)) }
+        ensures steps { OnOk result (self.new.steps ≡ self.old.steps + weight (runs frame.now.fonts.now frame.now.nest) (Some id) (Set (pos op))) }
+        ensures room { OnOk result (FindsRoom (PacketFinds frame.now.grid frame.now.fonts.now frame.now.nest) frame.now.base (Set (pos op)) (open_at frame.now.base self.old.saved.items) (record { place = here.old; font = Some id })) }
+        ensures stack { self.new.saved.items ≡ self.old.saved.items }
+        ensures met { AreMet frame.now.grid frame.now.fonts.now self.new.glyphs }
+        ensures same { OnOk result (SameCondition C.can canvas.old canvas.new) }
+    {
+        let mark = frame.grid.glyph(id, op, here, wide);
+        match frame.grid.past_char(here, wide) {
+            Ok(()) => {}
+            Err(Passed) => unreachable!(),
+        }
+        self.steps += 1;
+        canvas.glyph(&mark)
     }
 
     /// Does one command; `spot` is where it stands.
@@ -144,7 +213,7 @@ impl Run {
         requires inner { IsInner (view cmd.now) }
         requires short { special_size (view cmd.now) < 2 ^ 31 }
         requires ready { IsTurnReady C.can frame.now canvas.old (view cmd.now) font.old (turn_marks (turned (meaning_in frame.now) (view cmd.now) (open_at frame.now.base self.old.saved.items) (record { place = pos.old; font = font.old }))) }
-        requires met { AreMet frame.now.grid frame.now.fonts.now self.old.glyphs.page self.old.glyphs.met.items }
+        requires met { AreMet frame.now.grid frame.now.fonts.now self.old.glyphs }
         ensures ok { OnOk result (FollowsTurn (Took (HasGlyph frame.now.grid frame.now.fonts.now) C.takes) canvas.old canvas.new (open_at frame.now.base self.new.saved.items) (record { place = pos.new; font = font.new }) (turned (meaning_in frame.now) (view cmd.now) (open_at frame.now.base self.old.saved.items) (record { place = pos.old; font = font.old }))) }
         ensures stops { IfErr result (Stops C.takes C.refuses canvas.old canvas.new (turn_marks (turned (meaning_in frame.now) (view cmd.now) (open_at frame.now.base self.old.saved.items) (record { place = pos.old; font = font.old })))) }
         ensures cause { IfErr result (IsTurnCause (meaning_in frame.now) spot frame.now.base (inside frame.now.grid frame.now.fonts.now frame.now.nest (frame.now.base + length (open_at frame.now.base self.old.saved.items))) (view cmd.now) (open_at frame.now.base self.old.saved.items) (record { place = pos.old; font = font.old })) }
@@ -154,7 +223,7 @@ impl Run {
         ensures below { OnOk result (take frame.now.base self.new.saved.items ≡ take frame.now.base self.old.saved.items) }
         ensures base { OnOk result (frame.now.base ≤ vec_len self.new.saved) }
         ensures behind { OnOk result (font.new ≡ font_behind (select frame.now.fonts.now (scope_in frame.now)) font.old (view cmd.now)) }
-        ensures met { OnOk result (AreMet frame.now.grid frame.now.fonts.now self.new.glyphs.page self.new.glyphs.met.items) }
+        ensures met { OnOk result (AreMet frame.now.grid frame.now.fonts.now self.new.glyphs) }
         ensures same { OnOk result (SameCondition C.can canvas.old canvas.new) }
     {
         if self.steps >= MOST_STEPS {
@@ -223,7 +292,7 @@ impl Run {
         canvas: &mut C,
     ) -> Result<Wide, WalkFault<C::Fault>>
         requires ready { IsCharReady C.can frame.now canvas.old (Some id) (pos code) (char_marks (chars frame.now.grid frame.now.fonts.now frame.now.nest (Some id) (pos code) here.now)) }
-        requires met { AreMet frame.now.grid frame.now.fonts.now self.old.glyphs.page self.old.glyphs.met.items }
+        requires met { AreMet frame.now.grid frame.now.fonts.now self.old.glyphs }
         ensures ok { IfOk result (λ wide. TookChar (Took (HasGlyph frame.now.grid frame.now.fonts.now) C.takes) canvas.old canvas.new wide.width (chars frame.now.grid frame.now.fonts.now frame.now.nest (Some id) (pos code) here.now)) }
         ensures wide { IfOk result (λ wide. IsWide frame.now.grid wide) }
         ensures stops { IfErr result (Stops C.takes C.refuses canvas.old canvas.new (char_marks (chars frame.now.grid frame.now.fonts.now frame.now.nest (Some id) (pos code) here.now))) }
@@ -232,19 +301,17 @@ impl Run {
         ensures many { IfErr result (IsMany (self.old.steps + runs frame.now.fonts.now frame.now.nest (Some id) (pos code))) }
         ensures room { OnOk result (PacketFinds frame.now.grid frame.now.fonts.now frame.now.nest (vec_len self.old.saved) (Some id) (pos code) here.now) }
         ensures stack { OnOk result (self.new.saved.items ≡ self.old.saved.items) }
-        ensures met { OnOk result (AreMet frame.now.grid frame.now.fonts.now self.new.glyphs.page self.new.glyphs.met.items) }
+        ensures met { OnOk result (AreMet frame.now.grid frame.now.fonts.now self.new.glyphs) }
         ensures same { OnOk result (SameCondition C.can canvas.old canvas.new) }
     {
         one_reading();
-        if let Some(wide) = self.glyphs.find(&frame.grid, frame.fonts, id, code) {
+        let (glyph, wide) = self.glyphs.find(&frame.grid, frame.fonts, id, code);
+        if glyph {
             return match put_glyph(&frame.grid, id, code, here, &wide, canvas) {
                 Ok(()) => Ok(wide),
                 Err(f) => Err(WalkFault::Canvas(f)),
             };
         }
-        let Some(width) = frame.fonts.width(id, code) else {
-            unreachable!()
-        };
         let Some(packet) = frame.fonts.packet(id, code) else {
             unreachable!()
         };
@@ -259,6 +326,6 @@ impl Run {
             base: self.saved.len(),
         };
         self.frame(&nested, packet, inner(here), canvas)?;
-        Ok(frame.grid.wide(width))
+        Ok(wide)
     }
 }

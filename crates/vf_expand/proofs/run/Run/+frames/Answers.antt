@@ -26,7 +26,7 @@ use Rattle.vf_expand.proofs.Bytes.{start_room, more_room, room_all, finish, lexe
 use Rattle.vf_expand.proofs.Sizes.{special_in_range}
 use Rattle.vf_expand.proofs.Covering.{ahead_start, ahead_next, painted_more}
 use Rattle.vf_expand.proofs.Coming.{took_both, char_alone, follows_more}
-use Rattle.font_set.specs.Fonts.{width_at}
+use Rattle.font_set.specs.Fonts.{width_at, packet_at}
 use Rattle.font_set.specs.Frames.{char_act}
 use Rattle.vf_expand.specs.Pages.{chars, glyph_at, inner, frame_marks}
 use Rattle.vf_expand.specs.Takes.{char_marks}
@@ -37,6 +37,13 @@ use Rattle.vf_expand.proofs.Counting.{count_on, count_part, many_on, one_step, s
 use Rattle.vf_expand.proofs.Stopping.{can_on, covers_next, stop_on, cause_next, none_left, same_start, same_chain, can_later, can_nothing, plain_marks}
 use Rattle.vf_expand.specs.Shallow.{PacketFinds}
 use Rattle.vf_expand.proofs.Rooms.{room_real, room_packet, push_room, pop_room, font_room, set_room, put_room, plain_room}
+use Rattle.dvi_ops.specs.Spelling.{byte_at}
+use Rattle.dvi_ops.proofs.Texts.{set_single}
+use Rattle.font_set.specs.Count.{weight}
+use Rattle.vf_expand.specs.Homes.{IsTurnReady}
+use Rattle.vf_expand.specs.Shallow.{FindsRoom}
+use Rattle.vf_expand.specs.Takes.{FollowsTurn}
+use Rattle.vf_expand.specs.declared.fault.WalkFault.TheVariants as fault
 use Rattle.vf_expand.proofs.run.Run.+frames.Goals as goal
 
 pub frame-loop-at-init : goal.frame-loop-at-init
@@ -53,13 +60,13 @@ frame-loop-at-init g t c =
       higher = omega (arith, c.requires.base);
       below = ap (λ n. take n items) is ∙ take-length items;
       same = same_start g.C.Canvas.can c.args.canvas.now;
-      met = c.requires.met;
-      ahead = (r.0, r.1, r.3, ahead_start set (program_in f r.0) c.args.bytes.now (from + 0) c.first-font.result (subst (λ (k : ℕ). Lexes k c.args.bytes.now r.0) at r.1) r.2 r.3.0 (c.first-font.ensures r.0));
-      counted = λ cs l. (cs, subst (λ (k : ℕ). Lexes k c.args.bytes.now cs) at l, ap (λ (o : Option ℕ). c.args.self.now.steps + count_from set f.nest (scope_in f) o cs) (c.first-font.ensures cs));
+      met = c.first-font.ensures.met;
+      ahead = (r.0, r.1, r.3, ahead_start set (program_in f r.0) c.args.bytes.now (from + 0) c.first-font.result (subst (λ (k : ℕ). Lexes k c.args.bytes.now r.0) at r.1) r.2 r.3.0 (c.first-font.ensures.value r.0));
+      counted = λ cs l. (cs, subst (λ (k : ℕ). Lexes k c.args.bytes.now cs) at l, ap (λ (o : Option ℕ). c.args.self.now.steps + count_from set f.nest (scope_in f) o cs) (c.first-font.ensures.value cs));
       goes = λ cs l.
           start_room (Took (HasGlyph c.args.frame.now.grid c.args.frame.now.fonts.now) g.C.Canvas.takes) (meaning_in f) (start_in set (program_in f cs) c.args.start) cs c.args.bytes.now (from + 0) c.args.canvas.now (open_at f.base items) (record { place = c.args.start; font = c.first-font.result })
           (g.met.C.Canvas.starts c.args.canvas.now, tt) (subst (λ (k : ℕ). Lexes k c.args.bytes.now cs) at l) (none_open f.base items is)
-          (ap (λ (o : Option ℕ). record { place = c.args.start; font = o }) (c.first-font.ensures cs)) (PacketFinds f.grid set f.nest) f.base;
+          (ap (λ (o : Option ℕ). record { place = c.args.start; font = o }) (c.first-font.ensures.value cs)) (PacketFinds f.grid set f.nest) f.base;
     }
 
 pub frame-spot-requires : goal.frame-spot-requires
@@ -96,31 +103,31 @@ frame-loop-at-preserved g t c =
     let f = c.args.frame.now in
     let inv = c.loop-at.invariant in
     let a = inv.ahead in
-    let k = c.in-Ok.ensures.found in
-    let e = c.in_ok-turn-in-Ok.ensures in
-    let x = ahead_next c.one_spelling.ensures f.fonts.now (scope_in f) (acts_in f a.0) c.loop-at.font c.args.bytes.now (first_of f.home) c.loop-at.at c.in-Ok.end (view c.in-Ok.cmd) k.0 k.1 k.2 a.3 in
+    let k = c.in-Ok-next_cmd.ensures.found in
+    let e = c.in_ok-turn-in-Ok-next_cmd.ensures in
+    let x = ahead_next c.one_spelling.ensures f.fonts.now (scope_in f) (acts_in f a.0) c.loop-at.font c.args.bytes.now (first_of f.home) c.loop-at.at c.in-Ok-next_cmd.end (view c.in-Ok-next_cmd.cmd) k.0 k.1 k.2 a.3 in
     record {
       inside = k.1;
       higher = omega (arith, e.base);
       below = e.below ∙ inv.below;
-      same = same_chain g.C.Canvas.can c.args.canvas.now c.loop-at.canvas c.turn-in-Ok.new.canvas inv.same e.same;
+      same = same_chain g.C.Canvas.can c.args.canvas.now c.loop-at.canvas c.turn-in-Ok-next_cmd.new.canvas inv.same e.same;
       met = e.met;
       ahead = (a.0, a.1, a.2, rw e.behind x.left);
       counted = λ cs l.
           let q = inv.counted cs l in
-          let n = lexed_next c.one_spelling.ensures c.args.bytes.now (first_of f.home) c.loop-at.at c.in-Ok.end (view c.in-Ok.cmd) q.0 k.0 k.1 k.2 q.1 in
-          (n.1, n.5, rw e.behind (count_on (runs f.fonts.now f.nest) (select f.fonts.now (scope_in f)) c.loop-at.font q.0 n.1 n.0 (view c.in-Ok.cmd) c.loop-at.self.steps c.turn-in-Ok.new.self.steps (c.args.self.now.steps + count_in f cs) n.2 n.3 q.2 e.steps));
+          let n = lexed_next c.one_spelling.ensures c.args.bytes.now (first_of f.home) c.loop-at.at c.in-Ok-next_cmd.end (view c.in-Ok-next_cmd.cmd) q.0 k.0 k.1 k.2 q.1 in
+          (n.1, n.5, rw e.behind (count_on (runs f.fonts.now f.nest) (select f.fonts.now (scope_in f)) c.loop-at.font q.0 n.1 n.0 (view c.in-Ok-next_cmd.cmd) c.loop-at.self.steps c.turn-in-Ok-next_cmd.new.self.steps (c.args.self.now.steps + count_in f cs) n.2 n.3 q.2 e.steps));
       goes = λ cs l.
-          more_room (Took (HasGlyph c.args.frame.now.grid c.args.frame.now.fonts.now) g.C.Canvas.takes) (took_both (HasGlyph c.args.frame.now.grid c.args.frame.now.fonts.now) g.C.Canvas.takes g.met.C.Canvas.chains) c.one_spelling.ensures (meaning_in f) (start_in f.fonts.now (program_in f cs) c.args.start) cs c.args.bytes.now (first_of f.home) c.loop-at.at c.in-Ok.end (view c.in-Ok.cmd)
-          c.args.canvas.now c.loop-at.canvas c.turn-in-Ok.new.canvas (open_at f.base c.loop-at.self.saved.items) (open_at f.base c.turn-in-Ok.new.self.saved.items)
-          (record { place = c.loop-at.pos; font = c.loop-at.font }) (record { place = c.turn-in-Ok.new.pos; font = c.turn-in-Ok.new.font })
+          more_room (Took (HasGlyph c.args.frame.now.grid c.args.frame.now.fonts.now) g.C.Canvas.takes) (took_both (HasGlyph c.args.frame.now.grid c.args.frame.now.fonts.now) g.C.Canvas.takes g.met.C.Canvas.chains) c.one_spelling.ensures (meaning_in f) (start_in f.fonts.now (program_in f cs) c.args.start) cs c.args.bytes.now (first_of f.home) c.loop-at.at c.in-Ok-next_cmd.end (view c.in-Ok-next_cmd.cmd)
+          c.args.canvas.now c.loop-at.canvas c.turn-in-Ok-next_cmd.new.canvas (open_at f.base c.loop-at.self.saved.items) (open_at f.base c.turn-in-Ok-next_cmd.new.self.saved.items)
+          (record { place = c.loop-at.pos; font = c.loop-at.font }) (record { place = c.turn-in-Ok-next_cmd.new.pos; font = c.turn-in-Ok-next_cmd.new.font })
           k.0 k.1 k.2 (inv.goes cs l).0 e.ok (PacketFinds f.grid f.fonts.now f.nest) f.base (inv.goes cs l).1 e.room;
     }
 
 pub frame-unreachable-requires : goal.frame-unreachable-requires
 frame-unreachable-requires g t c =
     let a = c.loop-at.invariant.ahead in
-    no_fault c.args.bytes.now (first_of c.args.frame.now.home) c.loop-at.at a.3.rest c.loop-at-test.true c.in-Err.ensures.none a.3.lexed
+    no_fault c.args.bytes.now (first_of c.args.frame.now.home) c.loop-at.at a.3.rest c.loop-at-test.true c.in-Err-next_cmd.ensures.none a.3.lexed
 
 pub frame-returns-in_err-turn-clause-stops : goal.frame-returns-in_err-turn-clause-stops
 frame-returns-in_err-turn-clause-stops g t c = λ cs l.
@@ -135,18 +142,18 @@ frame-returns-in_err-turn-clause-stops g t c = λ cs l.
     (covers_next (Took (HasGlyph c.args.frame.now.grid c.args.frame.now.fonts.now) g.C.Canvas.takes) (meaning_in f) (start_in f.fonts.now (program_in f cs) c.args.start) cs (drop c.loop-at.at c.args.bytes.now) (first_of f.home + c.loop-at.at) c.args.canvas.now c.loop-at.canvas (open_at f.base c.loop-at.self.saved.items) here go n.0 n.1 (view c.in-Some.cmd) n.2 n.3)
     _ c.in_err-turn.ensures.stops)
 
-pub frame-returns-in_err-turn-in-Ok-clause-stops : goal.frame-returns-in_err-turn-in-Ok-clause-stops
-frame-returns-in_err-turn-in-Ok-clause-stops g t c = λ cs l.
+pub frame-returns-in_err-turn-in-Ok-next_cmd-clause-stops : goal.frame-returns-in_err-turn-in-Ok-next_cmd-clause-stops
+frame-returns-in_err-turn-in-Ok-next_cmd-clause-stops g t c = λ cs l.
     let f = c.args.frame.now in
-    let k = c.in-Ok.ensures.found in
+    let k = c.in-Ok-next_cmd.ensures.found in
     let go = (c.loop-at.invariant.goes cs l).0 in
-    let n = lexed_next c.one_spelling.ensures c.args.bytes.now (first_of f.home) c.loop-at.at c.in-Ok.end (view c.in-Ok.cmd) go.rest k.0 k.1 k.2 go.lexed in
+    let n = lexed_next c.one_spelling.ensures c.args.bytes.now (first_of f.home) c.loop-at.at c.in-Ok-next_cmd.end (view c.in-Ok-next_cmd.cmd) go.rest k.0 k.1 k.2 go.lexed in
     let here : State = record { place = c.loop-at.pos; font = c.loop-at.font } in
-    let p = err_from_is_err_and c.from_residual-in_err-turn-in-Ok.result c.from_residual-in_err-turn-in-Ok.ensures.1 in
+    let p = err_from_is_err_and c.from_residual-in_err-turn-in-Ok-next_cmd.result c.from_residual-in_err-turn-in-Ok-next_cmd.ensures.1 in
     rw (p.1, p.2)
-    (stop_on g.C.Canvas.takes g.C.Canvas.refuses g.met.C.Canvas.chains g.met.C.Canvas.refused_later c.args.canvas.now c.loop-at.canvas c.turn-in-Ok.new.canvas go.taken go.took.0 _ _
-    (covers_next (Took (HasGlyph c.args.frame.now.grid c.args.frame.now.fonts.now) g.C.Canvas.takes) (meaning_in f) (start_in f.fonts.now (program_in f cs) c.args.start) cs (drop c.loop-at.at c.args.bytes.now) (first_of f.home + c.loop-at.at) c.args.canvas.now c.loop-at.canvas (open_at f.base c.loop-at.self.saved.items) here go n.0 n.1 (view c.in-Ok.cmd) n.2 n.3)
-    _ c.in_err-turn-in-Ok.ensures.stops)
+    (stop_on g.C.Canvas.takes g.C.Canvas.refuses g.met.C.Canvas.chains g.met.C.Canvas.refused_later c.args.canvas.now c.loop-at.canvas c.turn-in-Ok-next_cmd.new.canvas go.taken go.took.0 _ _
+    (covers_next (Took (HasGlyph c.args.frame.now.grid c.args.frame.now.fonts.now) g.C.Canvas.takes) (meaning_in f) (start_in f.fonts.now (program_in f cs) c.args.start) cs (drop c.loop-at.at c.args.bytes.now) (first_of f.home + c.loop-at.at) c.args.canvas.now c.loop-at.canvas (open_at f.base c.loop-at.self.saved.items) here go n.0 n.1 (view c.in-Ok-next_cmd.cmd) n.2 n.3)
+    _ c.in_err-turn-in-Ok-next_cmd.ensures.stops)
 
 pub frame-returns-in_err-turn-clause-cause : goal.frame-returns-in_err-turn-clause-cause
 frame-returns-in_err-turn-clause-cause g t c = λ cs l.
@@ -161,18 +168,18 @@ frame-returns-in_err-turn-clause-cause g t c = λ cs l.
     (inside f.grid f.fonts.now f.nest) (λ at. spot_of f.home at) (first_of f.home + length c.args.bytes.now) f.base _
     (rw (sym c.spot-spot.ensures) c.in_err-turn.ensures.cause))
 
-pub frame-returns-in_err-turn-in-Ok-clause-cause : goal.frame-returns-in_err-turn-in-Ok-clause-cause
-frame-returns-in_err-turn-in-Ok-clause-cause g t c = λ cs l.
+pub frame-returns-in_err-turn-in-Ok-next_cmd-clause-cause : goal.frame-returns-in_err-turn-in-Ok-next_cmd-clause-cause
+frame-returns-in_err-turn-in-Ok-next_cmd-clause-cause g t c = λ cs l.
     let f = c.args.frame.now in
-    let k = c.in-Ok.ensures.found in
+    let k = c.in-Ok-next_cmd.ensures.found in
     let go = (c.loop-at.invariant.goes cs l).0 in
-    let n = lexed_next c.one_spelling.ensures c.args.bytes.now (first_of f.home) c.loop-at.at c.in-Ok.end (view c.in-Ok.cmd) go.rest k.0 k.1 k.2 go.lexed in
+    let n = lexed_next c.one_spelling.ensures c.args.bytes.now (first_of f.home) c.loop-at.at c.in-Ok-next_cmd.end (view c.in-Ok-next_cmd.cmd) go.rest k.0 k.1 k.2 go.lexed in
     let here : State = record { place = c.loop-at.pos; font = c.loop-at.font } in
-    let p = err_from_is_err_and c.from_residual-in_err-turn-in-Ok.result c.from_residual-in_err-turn-in-Ok.ensures.1 in
+    let p = err_from_is_err_and c.from_residual-in_err-turn-in-Ok-next_cmd.result c.from_residual-in_err-turn-in-Ok-next_cmd.ensures.1 in
     rw (p.1, p.2)
-    (cause_next (Took (HasGlyph c.args.frame.now.grid c.args.frame.now.fonts.now) g.C.Canvas.takes) (meaning_in f) (start_in f.fonts.now (program_in f cs) c.args.start) cs (drop c.loop-at.at c.args.bytes.now) (first_of f.home + c.loop-at.at) c.args.canvas.now c.loop-at.canvas (open_at f.base c.loop-at.self.saved.items) here go n.0 n.1 (view c.in-Ok.cmd) n.2 n.3 n.4
+    (cause_next (Took (HasGlyph c.args.frame.now.grid c.args.frame.now.fonts.now) g.C.Canvas.takes) (meaning_in f) (start_in f.fonts.now (program_in f cs) c.args.start) cs (drop c.loop-at.at c.args.bytes.now) (first_of f.home + c.loop-at.at) c.args.canvas.now c.loop-at.canvas (open_at f.base c.loop-at.self.saved.items) here go n.0 n.1 (view c.in-Ok-next_cmd.cmd) n.2 n.3 n.4
     (inside f.grid f.fonts.now f.nest) (λ at. spot_of f.home at) (first_of f.home + length c.args.bytes.now) f.base _
-    (rw (sym c.spot-spot-in-Ok.ensures) c.in_err-turn-in-Ok.ensures.cause))
+    (rw (sym c.spot-spot-in-Ok-next_cmd.ensures) c.in_err-turn-in-Ok-next_cmd.ensures.cause))
 
 pub frame-returns-in_err-turn-clause-many : goal.frame-returns-in_err-turn-clause-many
 frame-returns-in_err-turn-clause-many g t c = λ cs l.
@@ -184,15 +191,15 @@ frame-returns-in_err-turn-clause-many g t c = λ cs l.
     let part = count_part (runs f.fonts.now f.nest) (select f.fonts.now (scope_in f)) c.loop-at.font q.0 n.1 n.0 (view c.in-Some.cmd) c.loop-at.self.steps (c.args.self.now.steps + count_in f cs) n.2 n.3 q.2 in
     rw (p.1, p.2) (many_on _ _ _ part c.in_err-turn.ensures.many)
 
-pub frame-returns-in_err-turn-in-Ok-clause-many : goal.frame-returns-in_err-turn-in-Ok-clause-many
-frame-returns-in_err-turn-in-Ok-clause-many g t c = λ cs l.
+pub frame-returns-in_err-turn-in-Ok-next_cmd-clause-many : goal.frame-returns-in_err-turn-in-Ok-next_cmd-clause-many
+frame-returns-in_err-turn-in-Ok-next_cmd-clause-many g t c = λ cs l.
     let f = c.args.frame.now in
-    let k = c.in-Ok.ensures.found in
+    let k = c.in-Ok-next_cmd.ensures.found in
     let q = c.loop-at.invariant.counted cs l in
-    let n = lexed_next c.one_spelling.ensures c.args.bytes.now (first_of f.home) c.loop-at.at c.in-Ok.end (view c.in-Ok.cmd) q.0 k.0 k.1 k.2 q.1 in
-    let p = err_from_is_err_and c.from_residual-in_err-turn-in-Ok.result c.from_residual-in_err-turn-in-Ok.ensures.1 in
-    let part = count_part (runs f.fonts.now f.nest) (select f.fonts.now (scope_in f)) c.loop-at.font q.0 n.1 n.0 (view c.in-Ok.cmd) c.loop-at.self.steps (c.args.self.now.steps + count_in f cs) n.2 n.3 q.2 in
-    rw (p.1, p.2) (many_on _ _ _ part c.in_err-turn-in-Ok.ensures.many)
+    let n = lexed_next c.one_spelling.ensures c.args.bytes.now (first_of f.home) c.loop-at.at c.in-Ok-next_cmd.end (view c.in-Ok-next_cmd.cmd) q.0 k.0 k.1 k.2 q.1 in
+    let p = err_from_is_err_and c.from_residual-in_err-turn-in-Ok-next_cmd.result c.from_residual-in_err-turn-in-Ok-next_cmd.ensures.1 in
+    let part = count_part (runs f.fonts.now f.nest) (select f.fonts.now (scope_in f)) c.loop-at.font q.0 n.1 n.0 (view c.in-Ok-next_cmd.cmd) c.loop-at.self.steps (c.args.self.now.steps + count_in f cs) n.2 n.3 q.2 in
+    rw (p.1, p.2) (many_on _ _ _ part c.in_err-turn-in-Ok-next_cmd.ensures.many)
 
 pub frame-returns-then-len-frame-clause-ok : goal.frame-returns-then-len-frame-clause-ok
 frame-returns-then-len-frame-clause-ok g t c = λ cs l.
@@ -237,21 +244,111 @@ frame-returns-else-len-frame-clause-cause g t c = λ cs l.
       omega (arith, as_many f.base items c.loop-at.invariant.higher),
     )
 
+-- ---- characters that are set without a command
+
+pub frame-set-requires-clause-ready : goal.frame-set-requires-clause-ready
+frame-set-requires-clause-ready g t c =
+    let f = c.args.frame.now in
+    let bytes = c.args.bytes.now in
+    let q = c.in-Some-quick.ensures in
+    let k = set_single bytes c.loop-at.at c.loop-at-test.true q.small in
+    let cmd = Set (pos (byte_at bytes c.loop-at.at)) in
+    let os = open_at f.base c.loop-at.self.saved.items in
+    let here : State = record { place = c.loop-at.pos; font = c.loop-at.font } in
+    let a = c.loop-at.invariant.ahead in
+    let x = ahead_next c.one_spelling.ensures f.fonts.now (scope_in f) (acts_in f a.0) c.loop-at.font bytes (first_of f.home) c.loop-at.at (c.loop-at.at + 1) cmd k.0 k.1 k.2 a.3 in
+    let go = (c.loop-at.invariant.goes a.0 a.1).0 in
+    let n = lexed_next c.one_spelling.ensures bytes (first_of f.home) c.loop-at.at (c.loop-at.at + 1) cmd go.rest k.0 k.1 k.2 go.lexed in
+    let few = acts_of_command (scope_in f) x.sel cmd in
+    subst (λ (o : Option ℕ). IsTurnReady g.C.Canvas.can f c.loop-at.canvas cmd o (turn_marks (turned (meaning_in f) cmd os (record { place = c.loop-at.pos; font = o })))) q.same
+    (record {
+      sel = x.sel;
+      same = x.same;
+      covers = x.covers;
+      can_take =
+          can_on g.C.Canvas.can c.loop-at.canvas (IsPainted f.grid f.fonts.now few) (IsPainted f.grid f.fonts.now (acts_in f a.0)) (painted_more f.grid f.fonts.now few (acts_in f a.0) x.wider) go.taken
+          (turn_marks (turned (meaning_in f) cmd os here)) (marks_alone (marks_in f a.0 c.args.start))
+          (covers_next (Took (HasGlyph f.grid f.fonts.now) g.C.Canvas.takes) (meaning_in f) (start_in f.fonts.now (program_in f a.0) c.args.start) a.0 (drop c.loop-at.at bytes) (first_of f.home + c.loop-at.at) c.args.canvas.now c.loop-at.canvas os here go n.0 n.1 cmd n.2 n.3)
+          (can_later g.C.Canvas.can (IsPainted f.grid f.fonts.now (acts_in f a.0)) c.args.canvas.now c.loop-at.canvas (marks_alone (marks_in f a.0 c.args.start)) c.loop-at.invariant.same a.2.1);
+    })
+
+pub frame-returns-in-Err-clause-stops : goal.frame-returns-in-Err-clause-stops
+frame-returns-in-Err-clause-stops g t c = λ cs l.
+    let f = c.args.frame.now in
+    let bytes = c.args.bytes.now in
+    let q = c.in-Some-quick.ensures in
+    let k = set_single bytes c.loop-at.at c.loop-at-test.true q.small in
+    let cmd = Set (pos (byte_at bytes c.loop-at.at)) in
+    let os = open_at f.base c.loop-at.self.saved.items in
+    let here : State = record { place = c.loop-at.pos; font = c.loop-at.font } in
+    let go = (c.loop-at.invariant.goes cs l).0 in
+    let n = lexed_next c.one_spelling.ensures bytes (first_of f.home) c.loop-at.at (c.loop-at.at + 1) cmd go.rest k.0 k.1 k.2 go.lexed in
+    stop_on g.C.Canvas.takes g.C.Canvas.refuses g.met.C.Canvas.chains g.met.C.Canvas.refused_later c.args.canvas.now c.loop-at.canvas c.set.new.canvas go.taken go.took.0
+    (turn_marks (turned (meaning_in f) cmd os here)) (marks_alone (marks_in f cs c.args.start))
+    (covers_next (Took (HasGlyph f.grid f.fonts.now) g.C.Canvas.takes) (meaning_in f) (start_in f.fonts.now (program_in f cs) c.args.start) cs (drop c.loop-at.at bytes) (first_of f.home + c.loop-at.at) c.args.canvas.now c.loop-at.canvas os here go n.0 n.1 cmd n.2 n.3)
+    (fault.Canvas c.in-Err.f)
+    (subst (λ (o : Option ℕ). Stops g.C.Canvas.takes g.C.Canvas.refuses c.loop-at.canvas c.set.new.canvas (turn_marks (turned (meaning_in f) cmd os (record { place = c.loop-at.pos; font = o }))) (fault.Canvas c.in-Err.f)) (sym q.same) c.in-Err.ensures.stops)
+
+pub frame-returns-in-Err-clause-cause : goal.frame-returns-in-Err-clause-cause
+frame-returns-in-Err-clause-cause g t c = λ cs l.
+    let f = c.args.frame.now in
+    let bytes = c.args.bytes.now in
+    let q = c.in-Some-quick.ensures in
+    let k = set_single bytes c.loop-at.at c.loop-at-test.true q.small in
+    let cmd = Set (pos (byte_at bytes c.loop-at.at)) in
+    let os = open_at f.base c.loop-at.self.saved.items in
+    let here : State = record { place = c.loop-at.pos; font = c.loop-at.font } in
+    let go = (c.loop-at.invariant.goes cs l).0 in
+    let n = lexed_next c.one_spelling.ensures bytes (first_of f.home) c.loop-at.at (c.loop-at.at + 1) cmd go.rest k.0 k.1 k.2 go.lexed in
+    cause_next (Took (HasGlyph f.grid f.fonts.now) g.C.Canvas.takes) (meaning_in f) (start_in f.fonts.now (program_in f cs) c.args.start) cs (drop c.loop-at.at bytes) (first_of f.home + c.loop-at.at) c.args.canvas.now c.loop-at.canvas os here go n.0 n.1 cmd n.2 n.3 n.4
+    (inside f.grid f.fonts.now f.nest) (λ at. spot_of f.home at) (first_of f.home + length bytes) f.base (fault.Canvas c.in-Err.f) (inl tt)
+
+pub frame-loop-at-preserved-in-Some-quick : goal.frame-loop-at-preserved-in-Some-quick
+frame-loop-at-preserved-in-Some-quick g t c =
+    let f = c.args.frame.now in
+    let bytes = c.args.bytes.now in
+    let q = c.in-Some-quick.ensures in
+    let k = set_single bytes c.loop-at.at c.loop-at-test.true q.small in
+    let cmd = Set (pos (byte_at bytes c.loop-at.at)) in
+    let os = open_at f.base c.loop-at.self.saved.items in
+    let here : State = record { place = c.loop-at.pos; font = c.loop-at.font } in
+    let inv = c.loop-at.invariant in
+    let a = inv.ahead in
+    let e = c.in-Ok.ensures in
+    let x = ahead_next c.one_spelling.ensures f.fonts.now (scope_in f) (acts_in f a.0) c.loop-at.font bytes (first_of f.home) c.loop-at.at (c.loop-at.at + 1) cmd k.0 k.1 k.2 a.3 in
+    let steps = subst (λ (o : Option ℕ). c.set.new.self.steps ≡ c.loop-at.self.steps + weight (runs f.fonts.now f.nest) o cmd) (sym q.same) e.steps in
+    let ok =
+    subst (λ (o : Option ℕ). FollowsTurn (Took (HasGlyph f.grid f.fonts.now) g.C.Canvas.takes) c.loop-at.canvas c.set.new.canvas (open_at f.base c.set.new.self.saved.items) (record { place = c.set.new.here; font = o }) (turned (meaning_in f) cmd os (record { place = c.loop-at.pos; font = o })))
+    (sym q.same) e.ok in
+    let room = subst (λ (o : Option ℕ). FindsRoom (PacketFinds f.grid f.fonts.now f.nest) f.base cmd os (record { place = c.loop-at.pos; font = o })) (sym q.same) e.room in
+    record {
+      inside = k.1;
+      higher = rw e.stack inv.higher;
+      below = ap (take f.base) e.stack ∙ inv.below;
+      same = same_chain g.C.Canvas.can c.args.canvas.now c.loop-at.canvas c.set.new.canvas inv.same e.same;
+      met = e.met;
+      ahead = (a.0, a.1, a.2, x.left);
+      counted = λ cs l.
+          let r = inv.counted cs l in
+          let n = lexed_next c.one_spelling.ensures bytes (first_of f.home) c.loop-at.at (c.loop-at.at + 1) cmd r.0 k.0 k.1 k.2 r.1 in
+          (n.1, n.5, count_on (runs f.fonts.now f.nest) (select f.fonts.now (scope_in f)) c.loop-at.font r.0 n.1 n.0 cmd c.loop-at.self.steps c.set.new.self.steps (c.args.self.now.steps + count_in f cs) n.2 n.3 r.2 steps);
+      goes = λ cs l.
+          more_room (Took (HasGlyph f.grid f.fonts.now) g.C.Canvas.takes) (took_both (HasGlyph f.grid f.fonts.now) g.C.Canvas.takes g.met.C.Canvas.chains) c.one_spelling.ensures (meaning_in f) (start_in f.fonts.now (program_in f cs) c.args.start) cs bytes (first_of f.home) c.loop-at.at (c.loop-at.at + 1) cmd
+          c.args.canvas.now c.loop-at.canvas c.set.new.canvas os (open_at f.base c.set.new.self.saved.items)
+          here (record { place = c.set.new.here; font = c.loop-at.font })
+          k.0 k.1 k.2 (inv.goes cs l).0 ok (PacketFinds f.grid f.fonts.now f.nest) f.base (inv.goes cs l).1 room;
+    }
+
 -- ---- characters
 
-pub show-find-requires-clause-given : goal.show-find-requires-clause-given
-show-find-requires-clause-given g t c = font_given c.args.frame.now.fonts.now c.requires.ready.sel (Some c.args.id) c.requires.ready.same
+pub show-find-glyph-requires-clause-given : goal.show-find-glyph-requires-clause-given
+show-find-glyph-requires-clause-given g t c = font_given c.args.frame.now.fonts.now c.requires.ready.sel (Some c.args.id) c.requires.ready.same
 
-pub show-find-requires-clause-there : goal.show-find-requires-clause-there
-show-find-requires-clause-there g t c =
+pub show-find-glyph-requires-clause-there : goal.show-find-glyph-requires-clause-there
+show-find-glyph-requires-clause-there g t c =
     let r = c.requires.ready in
     let k = covered_char c.args.frame.now.fonts.now r.sel c.args.id c.args.code r.same r.covers in
     width_there c.args.frame.now.fonts.now c.args.id c.args.code k.shown
-
-pub show-width-requires : goal.show-width-requires
-show-width-requires g t c =
-    let r = c.requires.ready in
-    record { given = font_given c.args.frame.now.fonts.now r.sel (Some c.args.id) r.same }
 
 pub show-packet-requires : goal.show-packet-requires
 show-packet-requires g t c =
@@ -260,11 +357,8 @@ show-packet-requires g t c =
 
 pub show-unreachable-requires : goal.show-unreachable-requires
 show-unreachable-requires g t c =
-    let set = c.args.frame.now.fonts.now in
-    let r = c.requires.ready in
-    let k = covered_char set r.sel c.args.id c.args.code r.same r.covers in
-    let none : width_at set c.args.id c.args.code ≡ None = cc in
-    width_there set c.args.id c.args.code k.shown none
+    let kind : packet_at c.args.frame.now.fonts.now c.args.id c.args.code ≡ None → ⊥ = rw c.if-glyph.false at c.find-glyph.ensures.value.kind in
+    kind c.in_default.ensures.value
 
 pub show-put_glyph-requires-clause-can : goal.show-put_glyph-requires-clause-can
 show-put_glyph-requires-clause-can g t c =
@@ -272,10 +366,10 @@ show-put_glyph-requires-clause-can g t c =
     let set = f.fonts.now in
     let r = c.requires.ready in
     let k = covered_char set r.sel c.args.id c.args.code r.same r.covers in
-    let w : width_at set c.args.id c.args.code ≡ Some c.in-Some.wide.width = c.in-Some.ensures.value.width in
-    let none = c.in-Some.ensures.value.real in
-    (λ m. can_glyph g.C.Canvas.can c.args.canvas.now (IsPainted f.grid set (char_act r.sel (pos c.args.code) ∷ [])) (chars f.grid set f.nest (Some c.args.id) (pos c.args.code) c.args.here.now) (glyph_at f.grid c.args.id c.args.code c.args.here.now c.in-Some.wide.width) c.in-Some.wide.width
-    (chars_real f.grid set f.nest c.args.id c.args.code c.args.here.now c.in-Some.wide.width k.shown none w) r.can_take (m, (is_set set r.sel c.args.id c.args.code k, has_glyph f.grid set r.sel c.args.id c.args.code c.args.here.now c.in-Some.wide.width k none w)))
+    let w : width_at set c.args.id c.args.code ≡ Some c.find-glyph.result.1.width = c.find-glyph.ensures.value.width in
+    let none : packet_at set c.args.id c.args.code ≡ None = rw c.if-glyph.true at c.find-glyph.ensures.value.kind in
+    (λ m. can_glyph g.C.Canvas.can c.args.canvas.now (IsPainted f.grid set (char_act r.sel (pos c.args.code) ∷ [])) (chars f.grid set f.nest (Some c.args.id) (pos c.args.code) c.args.here.now) (glyph_at f.grid c.args.id c.args.code c.args.here.now c.find-glyph.result.1.width) c.find-glyph.result.1.width
+    (chars_real f.grid set f.nest c.args.id c.args.code c.args.here.now c.find-glyph.result.1.width k.shown none w) r.can_take (m, (is_set set r.sel c.args.id c.args.code k, has_glyph f.grid set r.sel c.args.id c.args.code c.args.here.now c.find-glyph.result.1.width k none w)))
 
 pub show-returns-in-Ok-clause-ok : goal.show-returns-in-Ok-clause-ok
 show-returns-in-Ok-clause-ok g t c =
@@ -283,17 +377,17 @@ show-returns-in-Ok-clause-ok g t c =
     let set = f.fonts.now in
     let r = c.requires.ready in
     let k = covered_char set r.sel c.args.id c.args.code r.same r.covers in
-    let w : width_at set c.args.id c.args.code ≡ Some c.in-Some.wide.width = c.in-Some.ensures.value.width in
-    let none = c.in-Some.ensures.value.real in
-    (took_real (Took (HasGlyph c.args.frame.now.grid c.args.frame.now.fonts.now) g.C.Canvas.takes) c.args.canvas.now c.put_glyph.new.canvas (chars f.grid set f.nest (Some c.args.id) (pos c.args.code) c.args.here.now) (glyph_at f.grid c.args.id c.args.code c.args.here.now c.in-Some.wide.width) c.in-Some.wide.width
-    (chars_real f.grid set f.nest c.args.id c.args.code c.args.here.now c.in-Some.wide.width k.shown none w) (c.in-Ok.ensures.ok, ((c.in-Ok.ensures.fit, has_glyph f.grid set r.sel c.args.id c.args.code c.args.here.now c.in-Some.wide.width k none w), tt)))
+    let w : width_at set c.args.id c.args.code ≡ Some c.find-glyph.result.1.width = c.find-glyph.ensures.value.width in
+    let none : packet_at set c.args.id c.args.code ≡ None = rw c.if-glyph.true at c.find-glyph.ensures.value.kind in
+    (took_real (Took (HasGlyph c.args.frame.now.grid c.args.frame.now.fonts.now) g.C.Canvas.takes) c.args.canvas.now c.put_glyph.new.canvas (chars f.grid set f.nest (Some c.args.id) (pos c.args.code) c.args.here.now) (glyph_at f.grid c.args.id c.args.code c.args.here.now c.find-glyph.result.1.width) c.find-glyph.result.1.width
+    (chars_real f.grid set f.nest c.args.id c.args.code c.args.here.now c.find-glyph.result.1.width k.shown none w) (c.in-Ok.ensures.ok, ((c.in-Ok.ensures.fit, has_glyph f.grid set r.sel c.args.id c.args.code c.args.here.now c.find-glyph.result.1.width k none w), tt)))
 
 pub show-returns-in-Ok-clause-steps : goal.show-returns-in-Ok-clause-steps
 show-returns-in-Ok-clause-steps g t c =
     let set = c.args.frame.now.fonts.now in
     let r = c.requires.ready in
     let k = covered_char set r.sel c.args.id c.args.code r.same r.covers in
-    let none = c.in-Some.ensures.value.real in
+    let none : packet_at set c.args.id c.args.code ≡ None = rw c.if-glyph.true at c.find-glyph.ensures.value.kind in
     let zero = runs_real set c.args.frame.now.nest c.args.id c.args.code k.shown none in
     omega (arith, zero)
 
@@ -303,10 +397,10 @@ show-returns-in-Err-clause-stops g t c =
     let set = f.fonts.now in
     let r = c.requires.ready in
     let k = covered_char set r.sel c.args.id c.args.code r.same r.covers in
-    let w : width_at set c.args.id c.args.code ≡ Some c.in-Some.wide.width = c.in-Some.ensures.value.width in
-    let none = c.in-Some.ensures.value.real in
-    refused_real g.C.Canvas.takes g.C.Canvas.refuses c.args.canvas.now c.put_glyph.new.canvas (chars f.grid set f.nest (Some c.args.id) (pos c.args.code) c.args.here.now) (glyph_at f.grid c.args.id c.args.code c.args.here.now c.in-Some.wide.width) c.in-Some.wide.width c.in-Err.f
-    (chars_real f.grid set f.nest c.args.id c.args.code c.args.here.now c.in-Some.wide.width k.shown none w) c.in-Err.ensures.stops
+    let w : width_at set c.args.id c.args.code ≡ Some c.find-glyph.result.1.width = c.find-glyph.ensures.value.width in
+    let none : packet_at set c.args.id c.args.code ≡ None = rw c.if-glyph.true at c.find-glyph.ensures.value.kind in
+    refused_real g.C.Canvas.takes g.C.Canvas.refuses c.args.canvas.now c.put_glyph.new.canvas (chars f.grid set f.nest (Some c.args.id) (pos c.args.code) c.args.here.now) (glyph_at f.grid c.args.id c.args.code c.args.here.now c.find-glyph.result.1.width) c.find-glyph.result.1.width c.in-Err.f
+    (chars_real f.grid set f.nest c.args.id c.args.code c.args.here.now c.find-glyph.result.1.width k.shown none w) c.in-Err.ensures.stops
 
 pub show-returns-in-Err-clause-cause : goal.show-returns-in-Err-clause-cause
 show-returns-in-Err-clause-cause g t c =
@@ -316,16 +410,16 @@ show-returns-in-Err-clause-cause g t c =
 pub show-returns-then-frame-eq0-clause-stops : goal.show-returns-then-frame-eq0-clause-stops
 show-returns-then-frame-eq0-clause-stops g t c =
     let f = c.args.frame.now in
-    let b = c.in-Some-packet.ensures in
-    let w : width_at f.fonts.now c.args.id c.args.code ≡ Some c.in-Some-width.width = sym c.width.ensures.value ∙ c.in-Some-width.is in (
-      ap char_marks (nested c.one_reading.ensures f.grid f.fonts.now c.args.id c.args.code c.args.here.now f.nest c.in-Some-width.width c.in-Some-packet.packet.now b.commands.commands b.value b.commands.spelled w c.if-frame-eq0.true),
+    let b = c.in-Some.ensures in
+    let w : width_at f.fonts.now c.args.id c.args.code ≡ Some c.find-glyph.result.1.width = c.find-glyph.ensures.value.width in (
+      ap char_marks (nested c.one_reading.ensures f.grid f.fonts.now c.args.id c.args.code c.args.here.now f.nest c.find-glyph.result.1.width c.in-Some.packet.now b.commands.commands b.value b.commands.spelled w c.if-frame-eq0.true),
       ([], g.met.C.Canvas.starts c.args.canvas.now),
     )
 
 pub show-returns-then-frame-eq0-clause-cause : goal.show-returns-then-frame-eq0-clause-cause
 show-returns-then-frame-eq0-clause-cause g t c =
     let f = c.args.frame.now in
-    nested_cause _ f.grid f.fonts.now c.args.id c.args.code c.args.here.now f.nest (vec_len c.args.self.now.saved) c.in-Some-packet.packet.now c.in-Some-packet.ensures.value c.if-frame-eq0.true
+    nested_cause _ f.grid f.fonts.now c.args.id c.args.code c.args.here.now f.nest (vec_len c.args.self.now.saved) c.in-Some.packet.now c.in-Some.ensures.value c.if-frame-eq0.true
 
 pub turn-returns-then-len-ge-MOST_OPEN-clause-cause : goal.turn-returns-then-len-ge-MOST_OPEN-clause-cause
 turn-returns-then-len-ge-MOST_OPEN-clause-cause g t c =
@@ -399,18 +493,18 @@ frame-turn-requires g t c κs within =
       ),
     )
 
-pub frame-turn-requires-in-Ok : goal.frame-turn-requires-in-Ok
-frame-turn-requires-in-Ok g t c κs within =
+pub frame-turn-requires-in-Ok-next_cmd : goal.frame-turn-requires-in-Ok-next_cmd
+frame-turn-requires-in-Ok-next_cmd g t c κs within =
     let f = c.args.frame.now in
     let a = c.loop-at.invariant.ahead in
-    let k = c.in-Ok.ensures.found in
-    let x = ahead_next c.one_spelling.ensures f.fonts.now (scope_in f) (acts_in f a.0) c.loop-at.font c.args.bytes.now (first_of f.home) c.loop-at.at c.in-Ok.end (view c.in-Ok.cmd) k.0 k.1 k.2 a.3 in
+    let k = c.in-Ok-next_cmd.ensures.found in
+    let x = ahead_next c.one_spelling.ensures f.fonts.now (scope_in f) (acts_in f a.0) c.loop-at.font c.args.bytes.now (first_of f.home) c.loop-at.at c.in-Ok-next_cmd.end (view c.in-Ok-next_cmd.cmd) k.0 k.1 k.2 a.3 in
     let go = (c.loop-at.invariant.goes a.0 a.1).0 in
-    let n = lexed_next c.one_spelling.ensures c.args.bytes.now (first_of f.home) c.loop-at.at c.in-Ok.end (view c.in-Ok.cmd) go.rest k.0 k.1 k.2 go.lexed in
+    let n = lexed_next c.one_spelling.ensures c.args.bytes.now (first_of f.home) c.loop-at.at c.in-Ok-next_cmd.end (view c.in-Ok-next_cmd.cmd) go.rest k.0 k.1 k.2 go.lexed in
     let here : State = record { place = c.loop-at.pos; font = c.loop-at.font } in
     let os = open_at f.base c.loop-at.self.saved.items in
-    let few = acts_of_command (scope_in f) x.sel (view c.in-Ok.cmd) in
-    let size = special_in_range c.args.bytes.now c.loop-at.at c.in-Ok.end (view c.in-Ok.cmd) k.0 k.2 in (
+    let few = acts_of_command (scope_in f) x.sel (view c.in-Ok-next_cmd.cmd) in
+    let size = special_in_range c.args.bytes.now c.loop-at.at c.in-Ok-next_cmd.end (view c.in-Ok-next_cmd.cmd) k.0 k.2 in (
       search rules,
       (
         within.0,
@@ -433,8 +527,8 @@ frame-turn-requires-in-Ok g t c κs within =
                         covers = x.covers;
                         can_take =
                             can_on g.C.Canvas.can c.loop-at.canvas (IsPainted f.grid f.fonts.now few) (IsPainted f.grid f.fonts.now (acts_in f a.0)) (painted_more f.grid f.fonts.now few (acts_in f a.0) x.wider) go.taken
-                            (turn_marks (turned (meaning_in f) (view c.in-Ok.cmd) os here)) (marks_alone (marks_in f a.0 c.args.start))
-                            (covers_next (Took (HasGlyph c.args.frame.now.grid c.args.frame.now.fonts.now) g.C.Canvas.takes) (meaning_in f) (start_in f.fonts.now (program_in f a.0) c.args.start) a.0 (drop c.loop-at.at c.args.bytes.now) (first_of f.home + c.loop-at.at) c.args.canvas.now c.loop-at.canvas os here go n.0 n.1 (view c.in-Ok.cmd) n.2 n.3)
+                            (turn_marks (turned (meaning_in f) (view c.in-Ok-next_cmd.cmd) os here)) (marks_alone (marks_in f a.0 c.args.start))
+                            (covers_next (Took (HasGlyph c.args.frame.now.grid c.args.frame.now.fonts.now) g.C.Canvas.takes) (meaning_in f) (start_in f.fonts.now (program_in f a.0) c.args.start) a.0 (drop c.loop-at.at c.args.bytes.now) (first_of f.home + c.loop-at.at) c.args.canvas.now c.loop-at.canvas os here go n.0 n.1 (view c.in-Ok-next_cmd.cmd) n.2 n.3)
                             (can_later g.C.Canvas.can (IsPainted f.grid f.fonts.now (acts_in f a.0)) c.args.canvas.now c.loop-at.canvas (marks_alone (marks_in f a.0 c.args.start)) c.loop-at.invariant.same a.2.1);
                       },
                       c.loop-at.invariant.met,
@@ -453,12 +547,12 @@ show-frame-requires g t c κs within =
     let f = c.args.frame.now in
     let set = f.fonts.now in
     let r = c.requires.ready in
-    let b = c.in-Some-packet.ensures in
+    let b = c.in-Some.ensures in
     let cs = b.commands.commands in
-    let w : width_at set c.args.id c.args.code ≡ Some c.in-Some-width.width = sym c.width.ensures.value ∙ c.in-Some-width.is in
+    let w : width_at set c.args.id c.args.code ≡ Some c.find-glyph.result.1.width = c.find-glyph.ensures.value.width in
     let k = covered_char set r.sel c.args.id c.args.code r.same r.covers in
-    let p = packet c.one_reading.ensures f.grid set r.sel c.args.id c.args.code c.args.here.now f.nest c.in-Some-width.width c.in-Some-packet.packet.now cs k r.covers b.value b.commands.spelled w (omega arith) in
-    let ready = packet_ready g.C.Canvas.can c.args.canvas.now f.grid set r.sel c.args.id c.args.code k (packet_home set c.args.id cs) p.there r.covers (chars f.grid set f.nest (Some c.args.id) (pos c.args.code) c.args.here.now) c.in-Some-width.width (frame_marks f.grid set (f.nest - 1) (packet_home set c.args.id cs) (inner c.args.here.now)) p.same r.can_take in (
+    let p = packet c.one_reading.ensures f.grid set r.sel c.args.id c.args.code c.args.here.now f.nest c.find-glyph.result.1.width c.in-Some.packet.now cs k r.covers b.value b.commands.spelled w (omega arith) in
+    let ready = packet_ready g.C.Canvas.can c.args.canvas.now f.grid set r.sel c.args.id c.args.code k (packet_home set c.args.id cs) p.there r.covers (chars f.grid set f.nest (Some c.args.id) (pos c.args.code) c.args.here.now) c.find-glyph.result.1.width (frame_marks f.grid set (f.nest - 1) (packet_home set c.args.id cs) (inner c.args.here.now)) p.same r.can_take in (
       search rules,
       (
         within.0,
@@ -470,7 +564,7 @@ show-frame-requires g t c κs within =
               search rules,
               (
                 omega (arith, b.short),
-                ((cs, b.commands.spelled, all_inner cs b.commands.allowed, rw c.inner.ensures ready), c.find.ensures.met),
+                ((cs, b.commands.spelled, all_inner cs b.commands.allowed, rw c.inner.ensures ready), c.find-glyph.ensures.met),
               ),
             ),
           ),
@@ -483,43 +577,43 @@ show-returns-in_err-frame-clause-stops g t c =
     let f = c.args.frame.now in
     let set = f.fonts.now in
     let r = c.requires.ready in
-    let b = c.in-Some-packet.ensures in
+    let b = c.in-Some.ensures in
     let cs = b.commands.commands in
-    let w : width_at set c.args.id c.args.code ≡ Some c.in-Some-width.width = sym c.width.ensures.value ∙ c.in-Some-width.is in
+    let w : width_at set c.args.id c.args.code ≡ Some c.find-glyph.result.1.width = c.find-glyph.ensures.value.width in
     let k = covered_char set r.sel c.args.id c.args.code r.same r.covers in
-    let p = packet c.one_reading.ensures f.grid set r.sel c.args.id c.args.code c.args.here.now f.nest c.in-Some-width.width c.in-Some-packet.packet.now cs k r.covers b.value b.commands.spelled w (omega arith) in
+    let p = packet c.one_reading.ensures f.grid set r.sel c.args.id c.args.code c.args.here.now f.nest c.find-glyph.result.1.width c.in-Some.packet.now cs k r.covers b.value b.commands.spelled w (omega arith) in
     let o = chars f.grid set f.nest (Some c.args.id) (pos c.args.code) c.args.here.now in
     let m = frame_marks f.grid set (f.nest - 1) (packet_home set c.args.id cs) (inner c.args.here.now) in
     let q = err_from_is_err_and c.from_residual.result c.from_residual.ensures.1 in
     let h = rw c.inner.ensures at (c.in_err-frame.ensures.stops cs b.commands.spelled) in
-    rw (q.1, q.2) (stop_on g.C.Canvas.takes g.C.Canvas.refuses g.met.C.Canvas.chains g.met.C.Canvas.refused_later c.args.canvas.now c.args.canvas.now c.frame.new.canvas [] (g.met.C.Canvas.starts c.args.canvas.now) (marks_alone m) (char_marks o) (over_packet o c.in-Some-width.width m p.same) _ h)
+    rw (q.1, q.2) (stop_on g.C.Canvas.takes g.C.Canvas.refuses g.met.C.Canvas.chains g.met.C.Canvas.refused_later c.args.canvas.now c.args.canvas.now c.frame.new.canvas [] (g.met.C.Canvas.starts c.args.canvas.now) (marks_alone m) (char_marks o) (over_packet o c.find-glyph.result.1.width m p.same) _ h)
 
 pub show-returns-in_err-frame-clause-cause : goal.show-returns-in_err-frame-clause-cause
 show-returns-in_err-frame-clause-cause g t c =
     let f = c.args.frame.now in
     let set = f.fonts.now in
     let r = c.requires.ready in
-    let b = c.in-Some-packet.ensures in
+    let b = c.in-Some.ensures in
     let cs = b.commands.commands in
-    let w : width_at set c.args.id c.args.code ≡ Some c.in-Some-width.width = sym c.width.ensures.value ∙ c.in-Some-width.is in
+    let w : width_at set c.args.id c.args.code ≡ Some c.find-glyph.result.1.width = c.find-glyph.ensures.value.width in
     let k = covered_char set r.sel c.args.id c.args.code r.same r.covers in
-    let p = packet c.one_reading.ensures f.grid set r.sel c.args.id c.args.code c.args.here.now f.nest c.in-Some-width.width c.in-Some-packet.packet.now cs k r.covers b.value b.commands.spelled w (omega arith) in
+    let p = packet c.one_reading.ensures f.grid set r.sel c.args.id c.args.code c.args.here.now f.nest c.find-glyph.result.1.width c.in-Some.packet.now cs k r.covers b.value b.commands.spelled w (omega arith) in
     let o = chars f.grid set f.nest (Some c.args.id) (pos c.args.code) c.args.here.now in
     let m = frame_marks f.grid set (f.nest - 1) (packet_home set c.args.id cs) (inner c.args.here.now) in
     let q = err_from_is_err_and c.from_residual.result c.from_residual.ensures.1 in
     let h = rw c.inner.ensures at (c.in_err-frame.ensures.cause cs b.commands.spelled) in
-    rw (q.1, q.2) (packet_cause f.grid set c.args.id c.args.code c.args.here.now f.nest (vec_len c.args.self.now.saved) c.in-Some-packet.packet.now cs _ (omega arith) b.value p.there (let n : c.len.result ≡ vec_len c.args.self.now.saved = omega arith in let j = rw n at h in let z : 0 + length c.in-Some-packet.packet.now ≡ length c.in-Some-packet.packet.now = omega arith in subst (λ (x : ℕ). IsCause {F = g.row.C-Fault.Denot} f.grid set (f.nest - 1) (packet_home set c.args.id cs) (inner c.args.here.now) (λ at. spot.Packet c.args.id c.args.code at) x (vec_len c.args.self.now.saved) c.in_err-frame.field-0.0) z j))
+    rw (q.1, q.2) (packet_cause f.grid set c.args.id c.args.code c.args.here.now f.nest (vec_len c.args.self.now.saved) c.in-Some.packet.now cs _ (omega arith) b.value p.there (let n : c.len.result ≡ vec_len c.args.self.now.saved = omega arith in let j = rw n at h in let z : 0 + length c.in-Some.packet.now ≡ length c.in-Some.packet.now = omega arith in subst (λ (x : ℕ). IsCause {F = g.row.C-Fault.Denot} f.grid set (f.nest - 1) (packet_home set c.args.id cs) (inner c.args.here.now) (λ at. spot.Packet c.args.id c.args.code at) x (vec_len c.args.self.now.saved) c.in_err-frame.field-0.0) z j))
 
 pub show-returns-in_err-frame-clause-many : goal.show-returns-in_err-frame-clause-many
 show-returns-in_err-frame-clause-many g t c =
     let f = c.args.frame.now in
     let set = f.fonts.now in
     let r = c.requires.ready in
-    let b = c.in-Some-packet.ensures in
+    let b = c.in-Some.ensures in
     let cs = b.commands.commands in
-    let w : width_at set c.args.id c.args.code ≡ Some c.in-Some-width.width = sym c.width.ensures.value ∙ c.in-Some-width.is in
+    let w : width_at set c.args.id c.args.code ≡ Some c.find-glyph.result.1.width = c.find-glyph.ensures.value.width in
     let k = covered_char set r.sel c.args.id c.args.code r.same r.covers in
-    let p = packet c.one_reading.ensures f.grid set r.sel c.args.id c.args.code c.args.here.now f.nest c.in-Some-width.width c.in-Some-packet.packet.now cs k r.covers b.value b.commands.spelled w (omega arith) in
+    let p = packet c.one_reading.ensures f.grid set r.sel c.args.id c.args.code c.args.here.now f.nest c.find-glyph.result.1.width c.in-Some.packet.now cs k r.covers b.value b.commands.spelled w (omega arith) in
     let o = chars f.grid set f.nest (Some c.args.id) (pos c.args.code) c.args.here.now in
     let m = frame_marks f.grid set (f.nest - 1) (packet_home set c.args.id cs) (inner c.args.here.now) in
     let q = err_from_is_err_and c.from_residual.result c.from_residual.ensures.1 in
@@ -530,28 +624,26 @@ show-returns-clause-ok g t c =
     let f = c.args.frame.now in
     let set = f.fonts.now in
     let r = c.requires.ready in
-    let b = c.in-Some-packet.ensures in
+    let b = c.in-Some.ensures in
     let cs = b.commands.commands in
-    let w : width_at set c.args.id c.args.code ≡ Some c.in-Some-width.width = sym c.width.ensures.value ∙ c.in-Some-width.is in
+    let w : width_at set c.args.id c.args.code ≡ Some c.find-glyph.result.1.width = c.find-glyph.ensures.value.width in
     let k = covered_char set r.sel c.args.id c.args.code r.same r.covers in
-    let p = packet c.one_reading.ensures f.grid set r.sel c.args.id c.args.code c.args.here.now f.nest c.in-Some-width.width c.in-Some-packet.packet.now cs k r.covers b.value b.commands.spelled w (omega arith) in
+    let p = packet c.one_reading.ensures f.grid set r.sel c.args.id c.args.code c.args.here.now f.nest c.find-glyph.result.1.width c.in-Some.packet.now cs k r.covers b.value b.commands.spelled w (omega arith) in
     let o = chars f.grid set f.nest (Some c.args.id) (pos c.args.code) c.args.here.now in
     let m = frame_marks f.grid set (f.nest - 1) (packet_home set c.args.id cs) (inner c.args.here.now) in
     let h = rw c.inner.ensures at (c.in_ok-frame.ensures.ok cs b.commands.spelled) in
-    let fits : FitsSigned w64 c.in-Some-width.width = search rules in
-    let same : c.wide.result.width ≡ c.in-Some-width.width = c.wide.ensures.same ∙ to_z-of_z w64 c.in-Some-width.width fits in
-    rw same (took_packet (Took (HasGlyph c.args.frame.now.grid c.args.frame.now.fonts.now) g.C.Canvas.takes) c.args.canvas.now c.frame.new.canvas o c.in-Some-width.width m p.same h)
+    (took_packet (Took (HasGlyph c.args.frame.now.grid c.args.frame.now.fonts.now) g.C.Canvas.takes) c.args.canvas.now c.frame.new.canvas o c.find-glyph.result.1.width m p.same h)
 
 pub show-returns-clause-steps : goal.show-returns-clause-steps
 show-returns-clause-steps g t c =
     let f = c.args.frame.now in
     let set = f.fonts.now in
     let r = c.requires.ready in
-    let b = c.in-Some-packet.ensures in
+    let b = c.in-Some.ensures in
     let cs = b.commands.commands in
-    let w : width_at set c.args.id c.args.code ≡ Some c.in-Some-width.width = sym c.width.ensures.value ∙ c.in-Some-width.is in
+    let w : width_at set c.args.id c.args.code ≡ Some c.find-glyph.result.1.width = c.find-glyph.ensures.value.width in
     let k = covered_char set r.sel c.args.id c.args.code r.same r.covers in
-    let p = packet c.one_reading.ensures f.grid set r.sel c.args.id c.args.code c.args.here.now f.nest c.in-Some-width.width c.in-Some-packet.packet.now cs k r.covers b.value b.commands.spelled w (omega arith) in
+    let p = packet c.one_reading.ensures f.grid set r.sel c.args.id c.args.code c.args.here.now f.nest c.find-glyph.result.1.width c.in-Some.packet.now cs k r.covers b.value b.commands.spelled w (omega arith) in
     let o = chars f.grid set f.nest (Some c.args.id) (pos c.args.code) c.args.here.now in
     let m = frame_marks f.grid set (f.nest - 1) (packet_home set c.args.id cs) (inner c.args.here.now) in
     rw p.counts (c.in_ok-frame.ensures.steps cs b.commands.spelled)
@@ -822,7 +914,7 @@ show-returns-in-Ok-clause-room g t c =
     let set = f.fonts.now in
     let r = c.requires.ready in
     let k = covered_char set r.sel c.args.id c.args.code r.same r.covers in
-    let none = c.in-Some.ensures.value.real in
+    let none : packet_at set c.args.id c.args.code ≡ None = rw c.if-glyph.true at c.find-glyph.ensures.value.kind in
     room_real f.grid set f.nest (vec_len c.args.self.now.saved) c.args.id c.args.code c.args.here.now (program_none set c.args.id c.args.code k.shown none)
 
 pub show-returns-clause-room : goal.show-returns-clause-room
@@ -830,11 +922,11 @@ show-returns-clause-room g t c =
     let f = c.args.frame.now in
     let set = f.fonts.now in
     let r = c.requires.ready in
-    let b = c.in-Some-packet.ensures in
+    let b = c.in-Some.ensures in
     let cs = b.commands.commands in
-    let w : width_at set c.args.id c.args.code ≡ Some c.in-Some-width.width = sym c.width.ensures.value ∙ c.in-Some-width.is in
+    let w : width_at set c.args.id c.args.code ≡ Some c.find-glyph.result.1.width = c.find-glyph.ensures.value.width in
     let k = covered_char set r.sel c.args.id c.args.code r.same r.covers in
-    let p = packet c.one_reading.ensures f.grid set r.sel c.args.id c.args.code c.args.here.now f.nest c.in-Some-width.width c.in-Some-packet.packet.now cs k r.covers b.value b.commands.spelled w (omega arith) in
+    let p = packet c.one_reading.ensures f.grid set r.sel c.args.id c.args.code c.args.here.now f.nest c.find-glyph.result.1.width c.in-Some.packet.now cs k r.covers b.value b.commands.spelled w (omega arith) in
     let h = rw c.inner.ensures at (c.in_ok-frame.ensures.room cs b.commands.spelled) in
     let n : c.len.result ≡ vec_len c.args.self.now.saved = omega arith in
     let j = rw n at h in

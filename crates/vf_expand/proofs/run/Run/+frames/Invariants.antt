@@ -32,7 +32,7 @@ invariant-frame-loop-at g l =
       higher : f.base ≤ length l.self.saved.items;
       below : take f.base l.self.saved.items ≡ l.fn.self.saved.items;
       same : SameCondition canvas.can l.fn.canvas l.canvas;
-      met : AreMet f.grid f.fonts.now l.self.glyphs.page l.self.glyphs.met.items;
+      met : AreMet f.grid f.fonts.now l.self.glyphs;
       ahead : (cs : List Placed) × Lexes first l.bytes cs × IsReady canvas.can f l.fn.canvas cs l.fn.start × Ahead f.fonts.now (scope_in f) (acts_in f cs) l.font (drop l.at l.bytes) (first + l.at);
       counted : (cs : List Placed) → Lexes first l.bytes cs →
           (rest : List Placed) × Lexes (first + l.at) (drop l.at l.bytes) rest × (l.self.steps + count_from f.fonts.now f.nest (scope_in f) l.font rest ≡ l.fn.self.steps + count_in f cs);
