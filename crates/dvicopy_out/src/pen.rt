@@ -67,6 +67,7 @@ fn part_down(script: &mut Script, q: i64)
     }
 }
 
+#[inline(always)]
 fn right(script: &mut Script, q: i64)
     requires moderate { unsigned_abs q < 2 ^ 32 - 1 }
     requires room { length script.old + 1080 ≤ 4096 }
@@ -78,6 +79,7 @@ fn right(script: &mut Script, q: i64)
     part_right(script, q - first);
 }
 
+#[inline(always)]
 fn down(script: &mut Script, q: i64)
     requires moderate { unsigned_abs q < 2 ^ 32 - 1 }
     requires room { length script.old + 1080 ≤ 4096 }
@@ -102,6 +104,7 @@ impl Pen {
     }
 
     /// To a place: right, and then down.
+    #[inline(always)]
     fn go(&mut self, script: &mut Script, h: i64, v: i64)
         requires h { unsigned_abs h < 2 ^ 31 }
         requires v { unsigned_abs v < 2 ^ 31 }
@@ -117,6 +120,7 @@ impl Pen {
     }
 
     /// Selects a font where another one is selected, or none.
+    #[inline(always)]
     fn select(&mut self, script: &mut Script, number: u32)
         requires small { number < 65536 }
         requires room { length script.old ≤ 2160 }
@@ -131,6 +135,7 @@ impl Pen {
     }
 
     /// The character, which moves by its width where the place behind it fits.
+    #[inline(always)]
     fn show(&mut self, script: &mut Script, code: u8, width: i64)
         requires moderate { unsigned_abs width < 2 ^ 32 }
         requires room { length script.old ≤ 2700 }
@@ -139,7 +144,7 @@ impl Pen {
     {
         let behind = self.h + width;
         if -FURTHEST <= behind && behind <= FURTHEST {
-            script.command(&Cmd::Set(i64::from(code)));
+            script.set(code);
             self.h = behind;
         } else {
             script.command(&Cmd::Put(i64::from(code)));

@@ -1,5 +1,6 @@
 //! Commands spelled in place.
-ghost use Rattle.std.specs.Prelude.{◌≡◌, ◌≤◌, ◌+◌, ◌++◌, [], length};
+ghost use Rattle.std.specs.Prelude.{◌≡◌, ◌≤◌, ◌+◌, ◌++◌, [], length, pos};
+ghost use Rattle.dvi_ops.specs.Command.Command.{Set};
 ghost use Rattle.dvi_ops.specs.View.{view};
 ghost use Rattle.dvi_ops.specs.Shortest.{CanBePut, shortest};
 
@@ -51,6 +52,22 @@ impl Script {
         match self.bytes.try_extend_from_slice(self.command.as_slice()) {
             Ok(()) => {}
             Err(_) => unreachable!(),
+        }
+    }
+
+    /// Appends the setting of a character, in its shortest spelling.
+    // Most characters are one byte: no command is made of these.
+    #[inline(always)]
+    #[tactic(auto, unfolding(dvi_ops::specs::Shortest::shortest))]
+    pub fn set(&mut self, code: u8)
+        requires { length self.old + 540 ≤ 4096 }
+        ensures value { self.new ≡ self.old ++ shortest (Set (pos code)) }
+        ensures len { length self.new ≤ length self.old + 540 }
+    {
+        if code < 128 {
+            self.bytes.push(code);
+        } else {
+            self.command(&Cmd::Set(i64::from(code)));
         }
     }
 
