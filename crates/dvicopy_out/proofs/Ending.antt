@@ -1,13 +1,18 @@
 -- How a copy ends.
 use Rattle.std.proofs.Common.{◌≡◌, ◌<◌, ◌≤◌, ◌+◌, ◌-◌, ◌%◌, ◌^◌, ℕ, zero, suc, List, [], ◌∷◌, ◌++◌, length, take, Option, Some, None, refl, sym, ap, ◌∙◌, subst, arith, length-append}
-use Rattle.std.specs.Prelude.{min, replicate}
+use Rattle.std.specs.Prelude.{min, replicate, Result, Ok, Err, OnOk, IfErr}
 use Rattle.std.specs.List.{AllByRecursion}
 use Rattle.std.proofs.lemmas.List.{length-replicate}
 use Rattle.dv_base.specs.Tray.{Output, Seen, WhereTold, Appends, AppendsFront, Begins, KeepsNames, append_last}
 use Rattle.dvicopy_out.specs.Copies.{Page, Work, body, file, filling, front_commands, pages_length}
 use Rattle.dvicopy_out.specs.Numbered.{definitions}
 use Rattle.dvicopy_out.specs.Spelled.{spelled}
-use Rattle.dvicopy_out.specs.Leaves.{Began, Copied, CopiedFront, OneCut, OneMore, Untouched}
+use Rattle.dvi_doc.specs.View.{ReadDoc}
+use Rattle.font_set.specs.Fonts.{FontSet}
+use Rattle.vf_expand.specs.Grid.{Grid}
+use Rattle.dvicopy_out.specs.Leaves.{Began, Copied, CopiedFront, CopyFails, OneCut, OneMore, Untouched, WriteFails}
+use Rattle.dvicopy_out.specs.declared.fault.CopyFault.{CopyFault}
+use Rattle.dvicopy_out.specs.declared.fault.CopyFault.TheVariants as fault
 use Rattle.dvicopy_out.proofs.Paging.{HasTen, length_body}
 
 append_new : (os : List Output) (name text : List ℕ) → append_last (os ++ record { name = name; bytes = [] } ∷ []) text ≡ os ++ record { name = name; bytes = text } ∷ []
@@ -50,6 +55,22 @@ copied_front name text x y z told begun last messages front keeps = record {
 
 pub untouched : (x : Seen) → Untouched x x
 untouched x = record { outputs = refl; begun = refl; last = refl; messages = refl }
+
+-- what is known whatever the answer
+pub on_ok : {X E : Type 0} (r : Result X E) {P : Type 0} → P → OnOk r P
+on_ok (Ok x) p = p
+on_ok (Err e) p = tt
+
+-- why a copy isn't written is why the document isn't copied
+write_fails : (g : Grid) (set : FontSet) (r : ReadDoc) (ks name bytes : List ℕ) (x y : Seen) (e : CopyFault) → WriteFails name bytes x y e → CopyFails g set r ks name bytes x y e
+write_fails g set r ks name bytes x y (fault.Walk e) h = absurd h
+write_fails g set r ks name bytes x y fault.CopyTooLong h = h
+write_fails g set r ks name bytes x y fault.WriteFault h = h
+write_fails g set r ks name bytes x y fault.OutOfMemory h = h
+
+pub copy_fails : {X : Type 0} (g : Grid) (set : FontSet) (r : ReadDoc) (ks name bytes : List ℕ) (x y : Seen) (e : Result X CopyFault) → IfErr e (WriteFails name bytes x y) → IfErr e (CopyFails g set r ks name bytes x y)
+copy_fails g set r ks name bytes x y (Ok z) h = tt
+copy_fails g set r ks name bytes x y (Err e) h = write_fails g set r ks name bytes x y e h
 
 -- ---- how long it is
 

@@ -49,6 +49,13 @@ pub record CopiedFront (name bytes : List ℕ) (old new : Seen) : Type 0 where
   pub began : Began name old new
   pub front : WhereTold (OneCut name bytes) old.outputs new.outputs
 
+-- Why a copy that was measured isn't written, and what is left. bytes is the copy.
+abbrev pub WriteFails : List ℕ → List ℕ → Seen → Seen → CopyFault → Type 0
+WriteFails name bytes old new (fault.Walk e) = ⊥
+WriteFails name bytes old new fault.CopyTooLong = (2 ^ 31 - 1 < length bytes) × Untouched old new
+WriteFails name bytes old new fault.WriteFault = Rose old.faults new.faults × (Untouched old new ⊎ CopiedFront name bytes old new)
+WriteFails name bytes old new fault.OutOfMemory = Untouched old new
+
 -- Why a document isn't copied, and what is left. bytes is its copy.
 abbrev pub CopyFails : Grid → FontSet → ReadDoc → List ℕ → List ℕ → List ℕ → Seen → Seen → CopyFault → Type 0
 CopyFails g set r ks name bytes old new (fault.Walk e) = IsWalkCause g set r ks e × Untouched old new

@@ -10,8 +10,8 @@ ghost use Rattle.vf_expand.specs.Pages.{most_nested};
 ghost use Rattle.vf_expand.specs.Causes.{IsMany};
 ghost use Rattle.dvicopy_out.specs.Copies.{back_commands, filling, front_commands, last_bop, page_commands, page_length, pages_bytes, pages_length};
 ghost use Rattle.dvicopy_out.specs.Counted.{counted};
-ghost use Rattle.dvicopy_out.specs.Leaves.{Copied, CopyFails, copy_of, work_of};
-ghost use Rattle.dvicopy_out.specs.Made.{IsMade, IsPutAt, WhereBegun};
+ghost use Rattle.dvicopy_out.specs.Leaves.{Copied, CopyFails, WriteFails, copy_of, work_of};
+ghost use Rattle.dvicopy_out.specs.Made.{IsMade, IsMeasured, IsPutAt, WhereBegun};
 ghost use Rattle.dvicopy_out.specs.Measured as measured;
 ghost use Rattle.dvicopy_out.specs.Pages.{IsCauseAt, IsCovered, IsReady, IsWalkCause, commands_at, copy_page, copy_pages};
 ghost use Rattle.dvicopy_out.specs.Sent.{Sends};
@@ -32,6 +32,7 @@ use dvi_ops::{Cmd, Tail};
 use font_set::Fonts;
 use positions::NoFault;
 use std::alloc::Global;
+use std::marker::Model;
 use vf_expand::{WalkFault, Walker, pages_by_place, painted_rules};
 
 /// The longest copy, in bytes.
@@ -107,20 +108,42 @@ fn measure_page(
     }
 }
 
-/// How long the copies of the pages are together; the greatest `u64` stays.
-fn measure_pages(
+/// What was measured of a copy: how many bytes its pages have together. The greatest `u64` stays.
+#[derive(Drop)]
+pub struct Measured {
+    bytes: u64,
+}
+
+impl Model for Measured {
+    ghost use Rattle.std.specs.Prelude.{ℕ};
+
+    ghost Value = { ℕ };
+
+    ghost view = { λ m. m.bytes };
+}
+
+impl Measured {
+    /// The bytes that the pages have together.
+    pub fn bytes(&self) -> u64
+        ensures { result ≡ self.now }
+    {
+        self.bytes
+    }
+}
+
+/// Measures the copies of pages of a document, in this order, for [`write_copy`], or answers why one of the pages can't be walked over.
+///
+/// `fonts` has to cover each of the pages. The walker counts anew.
+pub fn measure_copy(
     doc: &Doc<'_>,
     fonts: &Fonts,
     walker: &mut Walker,
     pages: &[u32],
-) -> Result<u64, WalkFault<NoFault>>
+) -> Result<Measured, WalkFault<NoFault>>
     requires read { IsRead doc.now }
     requires short { length doc.now.bytes < 2 ^ 31 }
     requires covered { AllByRecursion (IsCovered fonts.now doc.now) pages.now }
-    ensures bytes { IfOk result (λ n. n ≡ counted 0 (pages_length fonts.now (copy_pages walker.old.grid fonts.now doc.now pages.now))) }
-    ensures ready { OnOk result (AllByRecursion (IsReady walker.old.grid fonts.now doc.now) pages.now) }
-    ensures put { OnOk result (AllByRecursion (IsPutAt walker.old.grid fonts.now doc.now) pages.now) }
-    ensures few { OnOk result (commands_at fonts.now doc.now pages.now ≤ 50000000) }
+    ensures measured { IfOk result (IsMeasured walker.old.grid fonts.now doc.now pages.now) }
     ensures cause { IfErr result (IsWalkCause walker.old.grid fonts.now doc.now pages.now) }
     ensures kept { walker.new.grid ≡ walker.old.grid }
 {
@@ -134,7 +157,7 @@ fn measure_pages(
         }
     }
     let _ = walker.steps();
-    Ok(bytes)
+    Ok(Measured { bytes })
 }
 
 /// Whether a copy would be too long whose front and definitions have so many bytes together, and its pages so many.
@@ -337,6 +360,53 @@ fn write_output<T: Tray>(
     write_all_of(doc, front, fonts, walker, pages, mag, &mut writer)
 }
 
+/// Writes the copy of pages that were measured, as [`copy`] does, which measures them first.
+///
+/// Only now the output of that name is begun; from that moment only the tray can stop the copy, and no memory is taken. The walker counts
+/// anew.
+pub fn write_copy<T: Tray>(
+    alloc: Global,
+    doc: &Doc<'_>,
+    fonts: &Fonts,
+    walker: &mut Walker,
+    pages: &[u32],
+    measured: &Measured,
+    mag: i32,
+    name: &FileName,
+    tray: &mut T,
+) -> Result<(), CopyFault>
+    requires read { IsRead doc.now }
+    requires short { length doc.now.bytes < 2 ^ 31 }
+    requires covered { AllByRecursion (IsCovered fonts.now doc.now) pages.now }
+    requires measured { IsMeasured walker.old.grid fonts.now doc.now pages.now measured.now }
+    ensures copied { OnOk result (Copied (text_of name.now) (copy_of walker.old.grid fonts.now doc.now pages.now mag) (T.seen tray.old) (T.seen tray.new)) }
+    ensures short { OnOk result (length (copy_of walker.old.grid fonts.now doc.now pages.now mag) < 2 ^ 31) }
+    ensures made { WhereBegun (IsMade walker.old.grid fonts.now doc.now pages.now mag) result }
+    ensures fails { IfErr result (WriteFails (text_of name.now) (copy_of walker.old.grid fonts.now doc.now pages.now mag) (T.seen tray.old) (T.seen tray.new)) }
+    ensures later { (T.seen tray.old).faults ≤ (T.seen tray.new).faults }
+{
+    numbers_fit(doc);
+    let Ok(front) = Front::new(alloc, doc, fonts, mag) else {
+        return Err(CopyFault::OutOfMemory);
+    };
+    if is_too_long(front.around(), measured.bytes()) {
+        return Err(CopyFault::CopyTooLong);
+    }
+    let Ok(mut buffer) = Vec::with_capacity(alloc, ROOM) else {
+        return Err(CopyFault::OutOfMemory);
+    };
+    match tray.begin(alloc, name.as_str()) {
+        Begun::Ready => {}
+        Begun::Failed => return Err(CopyFault::WriteFault),
+        Begun::OutOfMemory => return Err(CopyFault::OutOfMemory),
+    }
+    walker.reset();
+    match write_output(tray, doc, &front, fonts, walker, pages, mag, &mut buffer) {
+        Ok(()) => Ok(()),
+        Err(_) => Err(CopyFault::WriteFault),
+    }
+}
+
 /// Copies pages of a document, in this order, with this magnification: the same marks at the same places, and no virtual font.
 ///
 /// The copy is measured first; then the output of that name is begun, and the copy is written. `fonts` has to cover each of the pages.
@@ -362,28 +432,8 @@ pub fn copy<T: Tray>(
     ensures fails { IfErr result (CopyFails walker.old.grid fonts.now doc.now pages.now (text_of name.now) (copy_of walker.old.grid fonts.now doc.now pages.now mag) (T.seen tray.old) (T.seen tray.new)) }
     ensures later { (T.seen tray.old).faults ≤ (T.seen tray.new).faults }
 {
-    numbers_fit(doc);
-    let bytes = match measure_pages(doc, fonts, walker, pages) {
-        Ok(bytes) => bytes,
-        Err(fault) => return Err(CopyFault::Walk(fault)),
-    };
-    let Ok(front) = Front::new(alloc, doc, fonts, mag) else {
-        return Err(CopyFault::OutOfMemory);
-    };
-    if is_too_long(front.around(), bytes) {
-        return Err(CopyFault::CopyTooLong);
-    }
-    let Ok(mut buffer) = Vec::with_capacity(alloc, ROOM) else {
-        return Err(CopyFault::OutOfMemory);
-    };
-    match tray.begin(alloc, name.as_str()) {
-        Begun::Ready => {}
-        Begun::Failed => return Err(CopyFault::WriteFault),
-        Begun::OutOfMemory => return Err(CopyFault::OutOfMemory),
-    }
-    walker.reset();
-    match write_output(tray, doc, &front, fonts, walker, pages, mag, &mut buffer) {
-        Ok(()) => Ok(()),
-        Err(_) => Err(CopyFault::WriteFault),
+    match measure_copy(doc, fonts, walker, pages) {
+        Ok(measured) => write_copy(alloc, doc, fonts, walker, pages, &measured, mag, name, tray),
+        Err(fault) => Err(CopyFault::Walk(fault)),
     }
 }

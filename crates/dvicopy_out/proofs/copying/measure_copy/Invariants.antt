@@ -5,7 +5,7 @@ use Rattle.dvicopy_out.specs.Counted.{counted}
 use Rattle.dvicopy_out.specs.Made.{IsPutAt}
 use Rattle.dvicopy_out.specs.Measured.{fonts_of}
 use Rattle.dvicopy_out.specs.Pages.{IsReady, commands_at, copy_pages}
-use Rattle.dvicopy_out.proofs.copying.measure_pages.Given as goal
+use Rattle.dvicopy_out.proofs.copying.measure_copy.Given as goal
 
 abbrev pub invariant-loop-page : goal.invariant-loop-page
 invariant-loop-page l = record {

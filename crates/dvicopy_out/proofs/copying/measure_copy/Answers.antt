@@ -4,7 +4,7 @@ use Rattle.std.proofs.lemmas.List.Elements.{Contains-get_or}
 use Rattle.dvicopy_out.specs.Made.{IsPutAt}
 use Rattle.dvicopy_out.specs.Pages.{IsCovered, IsReady}
 use Rattle.dvicopy_out.proofs.Rows.{commands_more, commands_room, each_at, each_more, lengths_more, many_of}
-use Rattle.dvicopy_out.proofs.copying.measure_pages.Goals as goal
+use Rattle.dvicopy_out.proofs.copying.measure_copy.Goals as goal
 
 pub measure_page-requires-clause-covered : goal.measure_page-requires-clause-covered
 measure_page-requires-clause-covered c = each_at (IsCovered c.args.fonts.now c.args.doc.now) c.args.pages.now c.loop-page.page-index c.loop-page-test.true c.requires.covered
@@ -40,16 +40,13 @@ loop-page-preserved c =
       same = step.same;
     }
 
-pub returns-clause-bytes : goal.returns-clause-bytes
-returns-clause-bytes c = rw (take_all c.loop-page.page-index c.args.pages.now c.loop-page-test.false) at c.loop-page.invariant.bytes
-
-pub returns-clause-ready : goal.returns-clause-ready
-returns-clause-ready c = rw (take_all c.loop-page.page-index c.args.pages.now c.loop-page-test.false) at c.loop-page.invariant.ready
-
-pub returns-clause-few : goal.returns-clause-few
-returns-clause-few c =
-    let steps = rw (take_all c.loop-page.page-index c.args.pages.now c.loop-page-test.false) at c.loop-page.invariant.steps in
-    omega (arith, steps, c.steps.ensures.few, c.steps.ensures.value)
-
-pub returns-clause-put : goal.returns-clause-put
-returns-clause-put c = rw (take_all c.loop-page.page-index c.args.pages.now c.loop-page-test.false) at c.loop-page.invariant.put
+pub returns-clause-measured : goal.returns-clause-measured
+returns-clause-measured c =
+    let all = take_all c.loop-page.page-index c.args.pages.now c.loop-page-test.false in
+    let steps = rw all at c.loop-page.invariant.steps in
+    record {
+      bytes_are = rw all at c.loop-page.invariant.bytes;
+      ready = rw all at c.loop-page.invariant.ready;
+      put = rw all at c.loop-page.invariant.put;
+      few = omega (arith, steps, c.steps.ensures.few, c.steps.ensures.value);
+    }
