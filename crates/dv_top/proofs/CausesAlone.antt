@@ -1,8 +1,7 @@
 -- Why a walk stops doesn't depend on what a canvas may answer.
-use Rattle.std.proofs.Common.{◌≡◌, ◌+◌, ◌⊎◌, ℕ, zero, suc, ℤ, List, length, Option, Some, inl, inr, refl, subst}
+use Rattle.std.proofs.Common.{◌≡◌, ◌+◌, ◌⊎◌, ℕ, zero, suc, ℤ, List, length, Option, Some, inl, inr, subst}
 use Rattle.dv_base.specs.declared.font_id.Spot.{Spot}
 use Rattle.dv_base.specs.declared.font_id.Spot.TheVariants as spot
-use Rattle.positions.specs.Mark.{Mark}
 use Rattle.positions.specs.Place.{Place, origin}
 use Rattle.positions.specs.declared.canvas.NoFault.{NoFault}
 use Rattle.dvi_ops.specs.Command.{Command, Definition}
@@ -14,12 +13,10 @@ use Rattle.font_set.specs.Programs.{page_program, page_scope}
 use Rattle.vf_expand.specs.Causes.{IsCauseBy, IsCharCause, IsFree, IsLeft, IsMany, IsNested, IsOwnCause, inside}
 use Rattle.vf_expand.specs.Grid.{Grid, State}
 use Rattle.vf_expand.specs.Meaning.{Meaning}
-use Rattle.vf_expand.specs.Page.{IsPageCause, IsShallowPage, page_marks}
+use Rattle.vf_expand.specs.Page.{IsPageCause}
 use Rattle.vf_expand.specs.Pages.{inner, meaning, start_in}
 use Rattle.vf_expand.specs.declared.fault.WalkFault.{WalkFault}
 use Rattle.vf_expand.specs.declared.fault.WalkFault.TheVariants as walk
-use Rattle.vf_expand.proofs.Faultless.{faultless}
-use Rattle.vf_expand.proofs.Later.{page_not_deep}
 use Rattle.dv_top.specs.Checking.{alone}
 
 -- what is said of the one fault is said of the other
@@ -102,16 +99,6 @@ module _ {E F : Type 0} (e : WalkFault E) (f : WalkFault F) (same : Follows e f)
   page : (g : Grid) (set : FontSet) (ds : List Definition) (p : PageOf) → IsPageCause g set ds p e → IsPageCause g set ds p f
   page g set ds p =
       frame (inside g set 16) (inside g set 16) (λ a font z q. packet g set 16 a font z q) (meaning g set 16 (page_scope ds)) (start_in set (page_program ds p.commands) origin) p.commands (λ at. spot.Page at) p.eop 0
-
--- A page whose marks are defined, and in which no push is too deep, stops for its many commands alone.
-pub no_cause : (g : Grid) (set : FontSet) (ds : List Definition) (p : PageOf) (r : List Mark × State) → page_marks g set ds p.commands ≡ Some r → IsShallowPage g set ds p.commands → (e : WalkFault NoFault) → IsPageCause g set ds p e → e ≡ walk.TooManySteps
-no_cause g set ds p r marked shallow (walk.StackUnder x) h = absurd (faultless g set ds p r marked (walk.StackUnder x) (page (walk.StackUnder x) (walk.StackUnder x) (under x) g set ds p h))
-no_cause g set ds p r marked shallow (walk.StackLeft x) h = absurd (faultless g set ds p r marked (walk.StackLeft x) (page (walk.StackLeft x) (walk.StackLeft x) (kept_open x) g set ds p h))
-no_cause g set ds p r marked shallow (walk.StackDeep x) h = absurd (page_not_deep NoFault g set ds p x shallow h)
-no_cause g set ds p r marked shallow (walk.NestDeep id code) h = absurd (faultless g set ds p r marked (walk.NestDeep id code) (page (walk.NestDeep id code) (walk.NestDeep id code) (nest id code) g set ds p h))
-no_cause g set ds p r marked shallow walk.TooManySteps h = refl
-no_cause g set ds p r marked shallow (walk.Overflow x) h = absurd (faultless g set ds p r marked (walk.Overflow x) (page (walk.Overflow x) (walk.Overflow x) (over x) g set ds p h))
-no_cause g set ds p r marked shallow (walk.Canvas f) h = elim f [ ]
 
 -- what holds of a fault holds of it alone
 pub alone_cause : {E : Type 0} (a : WalkFault E) (f : WalkFault NoFault) → alone a ≡ Some f → (g : Grid) (set : FontSet) (ds : List Definition) (p : PageOf) → IsPageCause g set ds p a → IsPageCause g set ds p f

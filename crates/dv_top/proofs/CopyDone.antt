@@ -10,17 +10,15 @@ use Rattle.dvi_doc.specs.Laws.{OneDocument}
 use Rattle.dvi_doc.specs.View.{IsRead, ReadDoc}
 use Rattle.dv_words.specs.Jobs.{CopyJob}
 use Rattle.font_set.specs.Fonts.{FontSet}
-use Rattle.positions.specs.declared.canvas.NoFault.{NoFault}
 use Rattle.vf_expand.specs.Grid.{Grid}
 use Rattle.vf_expand.specs.Page.{Walk}
-use Rattle.vf_expand.specs.declared.fault.WalkFault.{WalkFault}
 use Rattle.dvicopy_out.specs.Copies.{Page, Work, file}
 use Rattle.dvicopy_out.specs.AsDocument.{file_of}
 use Rattle.dvicopy_out.specs.Cuts.{CutsHoldFirstPages}
 use Rattle.dvicopy_out.specs.Keyed.{CopyKeepsMarks, copy_document}
-use Rattle.dvicopy_out.specs.Leaves.{Copied, CopyFails, copy_of, work_of}
+use Rattle.dvicopy_out.specs.Leaves.{Copied, WriteFails, copy_of, work_of}
 use Rattle.dvicopy_out.specs.Made.{IsMade, WhereBegun}
-use Rattle.dvicopy_out.specs.Pages.{IsWalkCause, copy_pages}
+use Rattle.dvicopy_out.specs.Pages.{copy_pages}
 use Rattle.dvicopy_out.specs.RealFonts.{CopyDefinesReal}
 use Rattle.dvicopy_out.specs.Units.{AreOf, CopyKeepsPages, Serves}
 use Rattle.dvicopy_out.specs.Writable.{CopyIsDocument, IsPutCopy}
@@ -43,11 +41,11 @@ use Rattle.dv_top.proofs.CopyPages.{same_copies, same_marks}
 use Rattle.dv_top.proofs.Once.{all_pages}
 
 -- no fault of a walk
-pub no_walk_fault : (g : Grid) (set : FontSet) (r : ReadDoc) (places name bytes : List ℕ) (a b : Seen) (e : CopyFault) → ((f : WalkFault NoFault) → IsWalkCause g set r places f → ⊥) → CopyFails g set r places name bytes a b e → IsNoWalk e
-no_walk_fault g set r places name bytes a b (fault.Walk f) none h = none f h.0
-no_walk_fault g set r places name bytes a b fault.CopyTooLong none h = tt
-no_walk_fault g set r places name bytes a b fault.WriteFault none h = tt
-no_walk_fault g set r places name bytes a b fault.OutOfMemory none h = tt
+pub no_walk_fault : (name bytes : List ℕ) (a b : Seen) (e : CopyFault) → WriteFails name bytes a b e → IsNoWalk e
+no_walk_fault name bytes a b (fault.Walk f) h = absurd h
+no_walk_fault name bytes a b fault.CopyTooLong h = tt
+no_walk_fault name bytes a b fault.WriteFault h = tt
+no_walk_fault name bytes a b fault.OutOfMemory h = tt
 
 module _ (one : OneDocument) (law : ByPlace) {job : CopyJob} {told : Told} (w : Walkable job told) (r : ReadDoc) (places : List ℕ) (walk : Walk) (set : FontSet) (mag : ℤ) (read : IsRead r) (within : Each (λ k. k < length r.pages) places) (k : IsWalked w r places walk set mag) where
   abbrev Doc : Document
@@ -133,11 +131,11 @@ module _ (one : OneDocument) (law : ByPlace) {job : CopyJob} {told : Told} (w : 
 
     -- a copy that failed
     pub failed : (later : Told) (a b c : Seen) (name : List ℕ) (e : CopyFault) (o : Outcome) → name ≡ job.output → SaysAll (warnings_for w) a b → CopyTells e o → ((e ≡ fault.WriteFault) → IsMade walk.grid set r places mag)
-        → CopyFails walk.grid set r places name (copy_of walk.grid set r places mag) b c e → Leaves job told later a c o
+        → WriteFails name (copy_of walk.grid set r places mag) b c e → Leaves job told later a c o
     failed later a b c name e o called said tells made h =
-        by e tells made (subst (λ (n : List ℕ). CopyFails walk.grid set r places n (copy_for w) b c e) called (subst (λ (bs : List ℕ). CopyFails walk.grid set r places name bs b c e) copy_same h))
+        by e tells made (subst (λ (n : List ℕ). WriteFails n (copy_for w) b c e) called (subst (λ (bs : List ℕ). WriteFails name bs b c e) copy_same h))
       where
-        by : (f : CopyFault) → CopyTells f o → ((f ≡ fault.WriteFault) → IsMade walk.grid set r places mag) → CopyFails walk.grid set r places job.output (copy_for w) b c f → Leaves job told later a c o
+        by : (f : CopyFault) → CopyTells f o → ((f ≡ fault.WriteFault) → IsMade walk.grid set r places mag) → WriteFails job.output (copy_for w) b c f → Leaves job told later a c o
         by (fault.Walk f) t m h = absurd t
         by fault.CopyTooLong t m h = subst (Leaves job told later a c) (sym t) (long w later a b c said h.0 h.1)
         by fault.WriteFault t m h = subst (Leaves job told later a c) (sym t) (unwritten w later a b c said h.0 h.1 (short (m refl)) (meant (m refl)) (front_is (m refl)))

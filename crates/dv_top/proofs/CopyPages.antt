@@ -1,5 +1,5 @@
 -- The pages of a copy by places in what was read, and by their commands in the document.
-use Rattle.std.proofs.Common.{◌≡◌, ◌<◌, ◌≤◌, ℕ, ℤ, zero, suc, List, [], ◌∷◌, length, map, Some, arith, refl, sym, ap, subst, ◌∙◌}
+use Rattle.std.proofs.Common.{◌≡◌, ◌<◌, ℕ, ℤ, zero, suc, List, [], ◌∷◌, length, map, Some, arith, inl, inr, refl, sym, ap, subst, ◌∙◌}
 use Rattle.std.specs.Prelude.{slice_get}
 use Rattle.std.specs.List.{AllByRecursion, Contains}
 use Rattle.dv_base.specs.declared.font_id.Spot.TheVariants as spot
@@ -17,42 +17,46 @@ use Rattle.font_set.specs.Frames.{acts_of}
 use Rattle.font_set.specs.Programs.{Program, page_program}
 use Rattle.font_set.specs.Search.{page_of}
 use Rattle.vf_expand.specs.Causes.{IsCause, IsMany}
+use Rattle.vf_expand.specs.Given.{NamesGiven}
 use Rattle.vf_expand.specs.Grid.{Grid}
 use Rattle.vf_expand.specs.Marks.{Outcome}
-use Rattle.vf_expand.specs.Page.{IsPageCause, IsShallowPage, page_marks, pages_count}
-use Rattle.vf_expand.specs.Takes.{TookPage}
-use Rattle.vf_expand.proofs.Later.{took_defined}
+use Rattle.vf_expand.specs.Page.{IsPageCause, page_marks, pages_count}
+use Rattle.vf_expand.proofs.Naming.{fault_given}
 use Rattle.vf_expand.specs.Pages.{most_nested}
 use Rattle.vf_expand.specs.declared.fault.WalkFault.{WalkFault}
 use Rattle.vf_expand.specs.declared.fault.WalkFault.TheVariants as walk
 use Rattle.dvicopy_out.specs.Copies.{Page}
 use Rattle.dvicopy_out.specs.Keyed.{AreSame, HasPages, keyed_marks}
-use Rattle.dvicopy_out.specs.Pages.{IsCauseAt, IsCovered, IsWalkCause, commands_at, copy_page, copy_pages, counts_in, eop_in, marks_or_none}
-use Rattle.dvicopy_out.proofs.Walked.{ByPlace, count_here, outcome_here, outline_here}
+use Rattle.dvicopy_out.specs.Pages.{IsCauseAt, IsCovered, IsReady, IsWalkCause, commands_at, copy_page, copy_pages, counts_in, eop_in, marks_or_none}
+use Rattle.dvicopy_out.proofs.Walked.{ByPlace, count_here, outcome_here, outline_here, shallow_page}
+use Rattle.dv_top.specs.Checking.{StopsIn}
 use Rattle.dv_top.specs.Copyable.{SameMarks}
 use Rattle.dv_top.specs.Copying.{copied_page, copied_pages}
 use Rattle.dv_top.specs.CopyWork.{IsSound}
 use Rattle.dv_top.specs.Covered.{CoversPages}
 use Rattle.dv_top.specs.Each.{Each}
-use Rattle.dv_top.specs.Printing.{most_steps}
 use Rattle.dv_top.specs.Selecting.{ArePages}
-use Rattle.dv_top.proofs.CausesAlone.{no_cause}
+use Rattle.dv_top.specs.Sources.{InSomePage}
 use Rattle.dv_top.proofs.Lists.{cons_head, cons_tail}
 
 abbrev a_page : List ℤ → List Mark → Page
 a_page counts marks = record { counts = counts; marks = marks }
 
--- what is true of all is true of those among them
-all_contain : (P : ℕ → Type 0) (ks : List ℕ) (k : ℕ) → AllByRecursion P ks → Contains ks k → P k
-all_contain P [] k all (i, l, e) = absurd (omega (arith, l))
-all_contain P (x ∷ xs) k all (zero, l, e) = subst P e all.0
-all_contain P (x ∷ xs) k all (suc i, l, e) = all_contain P xs k all.1 (i, omega (arith, l), e)
+-- a fault that stands in one of the pages names fonts of the set
+pub names_given : (g : Grid) (set : FontSet) (ds : List Definition) (pages : List PageOf) (e : WalkFault NoFault) → InSomePage pages (λ p. IsPageCause g set ds p e) → NamesGiven set e
+names_given g set ds [] e h = absurd h
+names_given g set ds (p ∷ ps) e (inl h) = fault_given g set ds p e h
+names_given g set ds (p ∷ ps) e (inr h) = names_given g set ds ps e h
 
--- a page that a canvas took whole was walked over
-pub sound_page : {C : Type 0} (takes : C → C → List Mark → Type 0) (a b : C) (g : Grid) (set : FontSet) (ds : List Definition) (p : PageOf) → TookPage takes a b (page_marks g set ds p.commands) → IsShallowPage g set ds p.commands → IsSound g set ds p
-sound_page takes a b g set ds p took shallow =
-    let r = took_defined takes a b (page_marks g set ds p.commands) took in
-    record { marks = r.0.0; state = r.0.1; defined = r.1; shallow = shallow }
+-- and is why they can't be walked over
+stops_here : (g : Grid) (set : FontSet) (ds : List Definition) (pages : List PageOf) (n : ℕ) → n ≡ pages_count set ds pages → (e : WalkFault NoFault) → InSomePage pages (λ p. IsPageCause g set ds p e) → IsMany n e → StopsIn g set ds pages e
+stops_here g set ds pages n same (walk.StackUnder s) cause many = cause
+stops_here g set ds pages n same (walk.StackLeft s) cause many = cause
+stops_here g set ds pages n same (walk.StackDeep s) cause many = cause
+stops_here g set ds pages n same (walk.NestDeep id code) cause many = cause
+stops_here g set ds pages n same walk.TooManySteps cause many = omega (arith, many, same)
+stops_here g set ds pages n same (walk.Overflow s) cause many = cause
+stops_here g set ds pages n same (walk.Canvas f) cause many = elim f [ ]
 
 module _ (one : OneDocument) (law : ByPlace) (r : ReadDoc) (read : IsRead r) (set : FontSet) where
   module _ (d : Document) (is : IsDoc r.bytes d) where
@@ -113,19 +117,26 @@ module _ (one : OneDocument) (law : ByPlace) (r : ReadDoc) (read : IsRead r) (se
           marks_by h other es ks ps qs (cons_tail (slice_get d.pages k) (Some p) (map (slice_get d.pages) ks) (map Some ps) e) has.2,
         )
 
-    abbrev OnlyMany : Grid → ℕ → Type 0
-    OnlyMany g k = (e : WalkFault NoFault) → IsCauseAt g set r k e → e ≡ walk.TooManySteps
-
-    only_many : (g : Grid) (places : List ℕ) (pages : List PageOf) → map (slice_get d.pages) places ≡ map Some pages → Each (IsSound g set r.fonts) pages → AllByRecursion (OnlyMany g) places
-    only_many g [] [] e sound = tt
-    only_many g [] (p ∷ ps) e sound = absurd cc
-    only_many g (k ∷ ks) [] e sound = absurd cc
-    only_many g (k ∷ ks) (p ∷ ps) e sound =
+    sound_by : (g : Grid) (places : List ℕ) (pages : List PageOf) → map (slice_get d.pages) places ≡ map Some pages → AllByRecursion (IsReady g set r) places → Each (IsSound g set r.fonts) pages
+    sound_by g [] [] e ready = tt
+    sound_by g [] (p ∷ ps) e ready = absurd cc
+    sound_by g (k ∷ ks) [] e ready = absurd cc
+    sound_by g (k ∷ ks) (p ∷ ps) e ready =
         let at : slice_get d.pages k ≡ Some p = cons_head (slice_get d.pages k) (Some p) (map (slice_get d.pages) ks) (map Some ps) e in
-        let s = sound.0 in (
-          (λ f h. no_cause g set r.fonts p (s.marks, s.state) s.defined s.shallow f (cause_back g k p f at h)),
-          only_many g ks ps (cons_tail (slice_get d.pages k) (Some p) (map (slice_get d.pages) ks) (map Some ps) e) sound.1,
+        let x = ready.0 in
+        let marks = outcome_here law g set r k p read (d, is, at) in (
+          record { marks = x.marks; state = x.state; defined = sym marks ∙ x.defined; shallow = shallow_page law g set r k p read (d, is, at) x.shallow },
+          sound_by g ks ps (cons_tail (slice_get d.pages k) (Some p) (map (slice_get d.pages) ks) (map Some ps) e) ready.1,
         )
+
+    cause_by : (g : Grid) (places : List ℕ) (pages : List PageOf) (k : ℕ) (f : WalkFault NoFault) → map (slice_get d.pages) places ≡ map Some pages → Contains places k → IsCauseAt g set r k f → InSomePage pages (λ p. IsPageCause g set r.fonts p f)
+    cause_by g [] pages k f e (i, l, same) h = absurd (omega (arith, l))
+    cause_by g (x ∷ xs) [] k f e among h = absurd cc
+    cause_by g (x ∷ xs) (p ∷ ps) k f e (zero, l, same) h =
+        let at : slice_get d.pages x ≡ Some p = cons_head (slice_get d.pages x) (Some p) (map (slice_get d.pages) xs) (map Some ps) e in
+        inl (cause_back g x p f at (subst (λ (n : ℕ). IsCauseAt g set r n f) (sym same) h))
+    cause_by g (x ∷ xs) (p ∷ ps) k f e (suc i, l, same) h =
+        inr (cause_by g xs ps k f (cons_tail (slice_get d.pages x) (Some p) (map (slice_get d.pages) xs) (map Some ps) e) (i, omega (arith, l), same) h)
 
   -- fonts that cover the pages cover their places
   pub covered_places : (places : List ℕ) (pages : List PageOf) → ArePages r places pages → Each (λ k. k < length r.pages) places → CoversPages set r.fonts pages → AllByRecursion (IsCovered set r) places
@@ -139,10 +150,18 @@ module _ (one : OneDocument) (law : ByPlace) (r : ReadDoc) (read : IsRead r) (se
   pub same_marks : (h : Grid) (other : FontSet) (es : List Definition) (places : List ℕ) (pages qs : List PageOf) → ArePages r places pages → HasPages h set other r places es qs → SameMarks h other set es qs r.fonts pages
   same_marks h other es places pages qs a has = marks_by a.doc a.is h other es places pages qs a.at has
 
-  -- a walk over pages that were walked over has no fault
-  pub no_walk : (g : Grid) (places : List ℕ) (pages : List PageOf) → ArePages r places pages → Each (IsSound g set r.fonts) pages → pages_count set r.fonts pages ≤ most_steps → (e : WalkFault NoFault) → IsWalkCause g set r places e → ⊥
-  no_walk g places pages a sound few e h =
-      let many : e ≡ walk.TooManySteps = all_contain (OnlyMany a.doc a.is g) places h.page (only_many a.doc a.is g places pages a.at sound) h.among e h.cause in
-      let passes : IsMany {F = NoFault} (commands_at set r places) walk.TooManySteps = subst (λ (f : WalkFault NoFault). IsMany (commands_at set r places) f) many h.many in
-      let counts = counts_by a.doc a.is places pages a.at in
-      omega (arith, passes, counts, few)
+  -- pages at places that are ready were walked over
+  pub sound_places : (g : Grid) (places : List ℕ) (pages : List PageOf) → ArePages r places pages → AllByRecursion (IsReady g set r) places → Each (IsSound g set r.fonts) pages
+  sound_places g places pages a ready = sound_by a.doc a.is g places pages a.at ready
+
+  -- they run as many commands as the places
+  pub same_counts : (places : List ℕ) (pages : List PageOf) → ArePages r places pages → commands_at set r places ≡ pages_count set r.fonts pages
+  same_counts places pages a = counts_by a.doc a.is places pages a.at
+
+  -- what stops a walk over the places stands in one of the pages
+  pub stops_some : (g : Grid) (places : List ℕ) (pages : List PageOf) → ArePages r places pages → (e : WalkFault NoFault) → IsWalkCause g set r places e → InSomePage pages (λ p. IsPageCause g set r.fonts p e)
+  stops_some g places pages a e h = cause_by a.doc a.is g places pages h.page e a.at h.among h.cause
+
+  -- and is why the pages can't be walked over
+  pub stops_pages : (g : Grid) (places : List ℕ) (pages : List PageOf) → ArePages r places pages → (e : WalkFault NoFault) → IsWalkCause g set r places e → StopsIn g set r.fonts pages e
+  stops_pages g places pages a e h = stops_here g set r.fonts pages (commands_at set r places) (same_counts places pages a) e (stops_some g places pages a e h) h.many

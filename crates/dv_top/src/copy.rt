@@ -5,13 +5,12 @@ ghost use Rattle.dvi_doc.specs.Document.{Document, PageOf};
 ghost use Rattle.dvi_doc.specs.Grammar.{IsDoc};
 ghost use Rattle.dvi_doc.specs.View.{IsRead};
 ghost use Rattle.dv_words.specs.JobView.{copy_view};
+ghost use Rattle.dvicopy_out.specs.Made.{IsMeasured};
 ghost use Rattle.dv_top.specs.Copied.{Leaves, LeavesBy};
 ghost use Rattle.dv_top.specs.Copyable.{Walkable};
 ghost use Rattle.dv_top.specs.Copying.{asked_of};
 ghost use Rattle.font_set.specs.Stored.{AreUnits};
-ghost use Rattle.vf_expand.specs.Page.{pages_count};
-ghost use Rattle.dv_top.specs.CopyWork.{CopyTells, IsNoWalk, IsSound, IsWalked};
-ghost use Rattle.dv_top.specs.Printing.{most_steps};
+ghost use Rattle.dv_top.specs.CopyWork.{CopyTells, IsNoWalk, IsWalked};
 ghost use Rattle.dv_top.specs.Covered.{CoversPages};
 ghost use Rattle.dv_top.specs.Each.{Each};
 ghost use Rattle.dv_top.specs.Reading.{Input};
@@ -29,8 +28,8 @@ use dv_base::{Shelf, Tray};
 use dv_words::{CopyJob, Parity, Windows};
 use dvi_doc::{Doc, one_document};
 use dvicopy_out::{
-    CopyFault, copies_are_documents, copies_define_real_fonts, copies_keep_marks,
-    copies_keep_pages, copy, cuts_hold_first_pages,
+    CopyFault, Measured, copies_are_documents, copies_define_real_fonts, copies_keep_marks,
+    copies_keep_pages, cuts_hold_first_pages, write_copy,
 };
 use font_set::{Fonts, Want};
 use std::alloc::Global;
@@ -63,7 +62,7 @@ fn magnification(scale: &Scale) -> i32
     scale.units.mag as i32
 }
 
-/// Says the warnings, and copies the pages at these places, which were walked over before.
+/// Says the warnings, and writes the copy of the pages at these places, which were walked over and measured before.
 fn copy_walked<T: Tray>(
     alloc: Global,
     job: &CopyJob,
@@ -71,6 +70,7 @@ fn copy_walked<T: Tray>(
     places: &[u32],
     fonts: &Fonts,
     walker: &mut Walker,
+    measured: &Measured,
     mag: i32,
     tray: &mut T,
 ) -> Result<(), Outcome>
@@ -78,8 +78,7 @@ fn copy_walked<T: Tray>(
     requires short { length doc.now.bytes ≤ 67108864 }
     requires within { Each (λ place. place < length doc.now.pages) places.now }
     requires covers { (pages : List PageOf) → ArePages doc.now places.now pages → CoversPages fonts.now doc.now.fonts pages }
-    requires sound { (pages : List PageOf) → ArePages doc.now places.now pages → Each (IsSound walker.old.grid fonts.now doc.now.fonts) pages }
-    requires few { (pages : List PageOf) → ArePages doc.now places.now pages → pages_count fonts.now doc.now.fonts pages ≤ most_steps }
+    requires measured { IsMeasured walker.old.grid fonts.now doc.now places.now measured.now }
     ensures leaves { (told later : Told) (w : Walkable (copy_view job.now) told) → IsWalked w doc.now places.now walker.old fonts.now mag → LeavesBy (copy_view job.now) told later (T.seen tray.old) (T.seen tray.new) result }
     ensures later { (T.seen tray.old).faults ≤ (T.seen tray.new).faults }
 {
@@ -91,7 +90,17 @@ fn copy_walked<T: Tray>(
     cuts_hold_first_pages();
     copies_define_real_fonts();
     say_checksums(fonts, tray);
-    match copy(alloc, doc, fonts, walker, places, mag, &job.output, tray) {
+    match write_copy(
+        alloc,
+        doc,
+        fonts,
+        walker,
+        places,
+        measured,
+        mag,
+        &job.output,
+        tray,
+    ) {
         Ok(()) => Ok(()),
         Err(fault) => Err(of_copy(fault)),
     }
@@ -120,9 +129,19 @@ fn copy_document<S: Shelf, T: Tray>(
     let scale = scale_of(doc, job.mag, DPI)?;
     let fonts = load(alloc, doc, places, &scale, Want::Packets, shelf)?;
     let mut walker = Walker::new(alloc, scale.conv, scale.conv, DRIFT)?;
-    walk_pages(doc, places, &fonts, &mut walker)?;
+    let measured = walk_pages(doc, places, &fonts, &mut walker)?;
     let mag = magnification(&scale);
-    copy_walked(alloc, job, doc, places, &fonts, &mut walker, mag, tray)
+    copy_walked(
+        alloc,
+        job,
+        doc,
+        places,
+        &fonts,
+        &mut walker,
+        &measured,
+        mag,
+        tray,
+    )
 }
 
 /// Copies the document in the bytes.

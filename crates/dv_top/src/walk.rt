@@ -1,7 +1,8 @@
-//! The pages that are to be copied are walked over before anything is written, and their faults are found.
-ghost use Rattle.std.specs.Prelude.{◌≡◌, ◌<◌, ◌≤◌, ◌^◌, IfErr, List, OnOk, length};
+//! The pages that are to be copied are walked over before anything is written: they are measured, and their faults are found.
+ghost use Rattle.std.specs.Prelude.{◌≡◌, ◌<◌, ◌≤◌, ◌^◌, IfErr, IfOk, List, OnOk, length};
 ghost use Rattle.dvi_doc.specs.Document.{PageOf};
 ghost use Rattle.dvi_doc.specs.View.{IsRead};
+ghost use Rattle.dvicopy_out.specs.Made.{IsMeasured};
 ghost use Rattle.vf_expand.specs.Page.{pages_count};
 ghost use Rattle.dv_top.specs.Checking.{CheckFails};
 ghost use Rattle.dv_top.specs.CopyWork.{IsSound};
@@ -13,36 +14,32 @@ ghost use Rattle.dv_top.specs.Selecting.{ArePages};
 use crate::outcome::Outcome;
 use crate::tell::of_walk;
 use dvi_doc::{Doc, one_document};
-use dvicopy_out::Measure;
+use dvicopy_out::{Measured, measure_copy};
 use font_set::Fonts;
 use vf_expand::{Walker, pages_by_place};
 
-/// Walks over the pages at these places, one after another, or answers why one of them can't be walked over.
+/// Walks over the pages at these places, one after another: answers what is measured of their copies, or why one of them can't be walked
+/// over.
 pub fn walk_pages(
     doc: &Doc<'_>,
     places: &[u32],
     fonts: &Fonts,
     walker: &mut Walker,
-) -> Result<(), Outcome>
+) -> Result<Measured, Outcome>
     requires read { IsRead doc.now }
     requires short { length doc.now.bytes < 2 ^ 31 }
     requires within { Each (λ place. place < length doc.now.pages) places.now }
     requires covers { (pages : List PageOf) → ArePages doc.now places.now pages → CoversPages fonts.now doc.now.fonts pages }
-    requires begins { walker.old.steps ≡ 0 }
     ensures sound { (pages : List PageOf) → ArePages doc.now places.now pages → OnOk result (Each (IsSound walker.old.grid fonts.now doc.now.fonts) pages) }
     ensures few { (pages : List PageOf) → ArePages doc.now places.now pages → OnOk result (pages_count fonts.now doc.now.fonts pages ≤ most_steps) }
+    ensures measured { IfOk result (IsMeasured walker.old.grid fonts.now doc.now places.now) }
     ensures reason { (pages : List PageOf) → ArePages doc.now places.now pages → IfErr result (CheckFails walker.old.grid fonts.now doc.now.fonts pages) }
     ensures kept { walker.new.grid ≡ walker.old.grid }
 {
     one_document();
     pages_by_place();
-    let mut measure = Measure::new(fonts);
-    for place in places {
-        if let Err(fault) = walker.page(doc, *place as usize, fonts, &mut measure) {
-            return Err(of_walk(fonts, fault));
-        }
-        let _ = walker.steps();
+    match measure_copy(doc, fonts, walker, places) {
+        Ok(measured) => Ok(measured),
+        Err(fault) => Err(of_walk(fonts, fault)),
     }
-    let _ = walker.steps();
-    Ok(())
 }
