@@ -18,3 +18,4 @@ pub mod UnitPixels
 pub mod RoundingLaws
 pub mod Scale
 pub mod ScaleLaws
+pub mod Brought

@@ -1,6 +1,7 @@
 //! From units of a DVI file to pixels.
 ghost use Rattle.std.specs.Prelude.{◌≡◌, ◌↔◌, ◌*◌, ◌+◌, ◌-◌, ◌/◌, ◌^◌, ◌<◌, ◌≤◌, pos, ◌-ℤ◌, ◌<ℤ◌, ◌≤ℤ◌, unsigned_abs, IsSome, IfSome, IsTrue, MatchOption};
 ghost use Rattle.dv_base.specs.Rounding.{IsNearest, IsCeiling, IsFine, half_up, rounded, ceiling};
+ghost use Rattle.dv_base.specs.Brought.{IsWay, brought};
 ghost use Rattle.dv_base.specs.Lowest.{gcd};
 ghost use Rattle.dv_base.specs.RoundingLaws.{rounded-nearest};
 ghost use Rattle.dv_base.specs.UnitPixels.{pixels_of_one, unit_length, IsSameNumber, IsUsable};
@@ -68,17 +69,25 @@ fn quotient(above: u128, below: u128) -> u128
     }
 }
 
-/// Whether the whole part of a quotient is from `least` to `most`, by products alone.
-// Each of them is of two numbers of 64 bits, so the processor takes one step for it.
+/// What leads from a range, from `least` to `most`, to the whole part of a quotient: 0 where it is inside, 1 where it is the next above
+/// them, -1 where it is the next below them; `None` where it is further.
+// By products alone. Each of them is of two numbers of 64 bits, so the processor takes one step for it.
 #[inline(always)]
-fn is_between(above: u128, below: u64, least: u64, most: u64) -> bool
+fn way_to(above: u128, below: u64, least: u64, most: u64) -> Option<i64>
     requires below { below < 2 ^ 62 }
     requires some { 0 < below }
     requires most { most < 2 ^ 63 }
-    ensures { IsTrue result ↔ ((least ≤ above / below) × (above / below ≤ most)) }
+    ensures { IfSome result (IsWay least most (above / below)) }
 {
     let below = u128::from(below);
-    u128::from(least) * below <= above && above < u128::from(most + 1) * below
+    let (low, high) = (u128::from(least) * below, u128::from(most + 1) * below);
+    if above < low {
+        return if above + below >= low { Some(-1) } else { None };
+    }
+    if above < high {
+        return Some(0);
+    }
+    if above < high + below { Some(1) } else { None }
 }
 
 impl Conv {
@@ -119,43 +128,65 @@ impl Conv {
         if x < 0 { -pixels } else { pixels }
     }
 
-    /// Whether `n` pixels are at most `drift` from a length that is not negative, rounded.
+    /// `n` pixels, brought to at most `drift` from a length that is not negative, rounded; `None` where they are more than one pixel
+    /// too far.
     #[inline(always)]
-    fn is_near_size(&self, length: u64, n: i64, drift: i64) -> bool
+    fn near_size(&self, length: u64, n: i64, drift: i64) -> Option<i64>
         requires length { length < 2 ^ 40 }
         requires n { unsigned_abs n < 2 ^ 42 }
         requires least { pos 0 ≤ℤ drift }
         requires most { drift ≤ℤ pos 1000 }
-        ensures { IsTrue result ↔ unsigned_abs (n -ℤ pos (half_up self.now length)) ≤ unsigned_abs drift }
+        ensures value { IfSome result (λ pixels. pixels ≡ brought (pos (half_up self.now length)) drift n) }
+        ensures bound { IfSome result (λ pixels. unsigned_abs pixels < 2 ^ 43) }
     {
         let most = n + drift;
         if most < 0 {
-            return false;
+            return None;
         }
         let least = (n - drift).max(0);
         // both are below 2^60
         let (top, bottom) = (self.top as u64, self.bottom as u64);
         let above = u128::from(2 * length) * u128::from(top) + u128::from(bottom);
-        is_between(above, 2 * bottom, least.unsigned_abs(), most.unsigned_abs())
+        let way = way_to(above, 2 * bottom, least.unsigned_abs(), most.unsigned_abs())?;
+        Some(n + way)
     }
 
-    /// Whether `n` pixels are at most `drift` from the length `x`, rounded to the nearest whole number. It takes products and no
-    /// division, so it is faster than [`Conv::round`].
+    /// `n` pixels, brought to at most `drift` from the length `x`, rounded to the nearest whole number. Where they are near enough, or
+    /// one pixel too far, products tell it and nothing is divided, so it is faster than [`Conv::round`].
     #[inline(always)]
-    pub fn is_near(&self, x: i64, n: i64, drift: i64) -> bool
+    pub fn near(&self, x: i64, n: i64, drift: i64) -> i64
         requires x { unsigned_abs x < 2 ^ 40 }
         requires n { unsigned_abs n < 2 ^ 42 }
         requires least { pos 0 ≤ℤ drift }
         requires most { drift ≤ℤ pos 1000 }
-        ensures near { IsTrue result ↔ unsigned_abs (n -ℤ rounded self.now x) ≤ unsigned_abs drift }
+        ensures value { result ≡ brought (rounded self.now x) drift n }
         ensures fine { IsFine self.now }
     {
         let _ = &self.top;
+        let size = x.unsigned_abs();
         if x < 0 {
-            self.is_near_size(x.unsigned_abs(), -n, drift)
+            match self.near_size(size, -n, drift) {
+                Some(pixels) => -pixels,
+                None => self.far(x, n, drift),
+            }
         } else {
-            self.is_near_size(x.unsigned_abs(), n, drift)
+            match self.near_size(size, n, drift) {
+                Some(pixels) => pixels,
+                None => self.far(x, n, drift),
+            }
         }
+    }
+
+    /// The same by a division.
+    #[inline(never)]
+    fn far(&self, x: i64, n: i64, drift: i64) -> i64
+        requires x { unsigned_abs x < 2 ^ 40 }
+        requires least { pos 0 ≤ℤ drift }
+        requires most { drift ≤ℤ pos 1000 }
+        ensures { result ≡ brought (rounded self.now x) drift n }
+    {
+        let exact = self.round(x);
+        n.clamp(exact - drift, exact + drift)
     }
 
     /// The least whole number of pixels that is not below the length `x`.

@@ -23,18 +23,18 @@ fn halved(size: u32) -> (u32, u32)
     (reduced, times)
 }
 
-/// `size · bytes / (65536 · beta)`, cut to a whole number, by products with one byte of `bytes` at a time.
-fn fraction(size: u64, bytes: u64, beta: u64) -> u64
+/// `size · bytes / (65536 · 2^bits)`, cut to a whole number, by products with one byte of `bytes` at a time.
+fn fraction(size: u64, bytes: u64, bits: u32) -> u64
     requires size { size < 2 ^ 23 }
     requires bytes { bytes < 2 ^ 24 }
-    requires beta { 0 < beta }
-    ensures value { result ≡ size * bytes / (65536 * beta) }
+    requires bits { bits ≤ 4 }
+    ensures value { result ≡ size * bytes / (65536 * 2 ^ bits) }
     ensures bound { result < 2 ^ 31 }
 {
     let high = bytes / 0x1_0000;
     let middle = bytes / 0x100 % 0x100;
     let low = bytes % 0x100;
-    ((low * size / 0x100 + middle * size) / 0x100 + high * size) / beta
+    ((low * size / 0x100 + middle * size) / 0x100 + high * size) >> bits
 }
 
 /// The width, in the units of the size `z`, of a character whose width is the fix_word `fix` (TFM format: in units of 2^-20 of
@@ -51,8 +51,7 @@ pub fn scale(z: u32, fix: i32) -> i64
     let (size, times) = halved(z);
     let size = u64::from(size);
     let alpha = 16 * 2u64.pow(times);
-    let beta = 256 / alpha;
     let first = i64::from(fix.div_euclid(0x100_0000));
     let others = fix.rem_euclid(0x100_0000) as u64;
-    fraction(size, others, beta) as i64 + first * (alpha * size) as i64
+    fraction(size, others, 4 - times) as i64 + first * (alpha * size) as i64
 }

@@ -34,12 +34,21 @@ fn reads_numbers(rt: HostRuntime) {
 fn judges_nearness(rt: HostRuntime) {
     // 327680 units are 20.7555 pixels
     let conv = Conv::new(&TEX).expect(&rt, "TeX's units");
-    assert!(rt; conv.is_near(327_680, 20, 1));
-    assert!(rt; conv.is_near(327_680, 22, 1));
-    assert!(rt; !conv.is_near(327_680, 23, 1));
-    assert!(rt; !conv.is_near(-327_680, -19, 1));
-    assert!(rt; conv.is_near(-327_680, -22, 1));
-    assert!(rt; !conv.is_near(0, -1, 0));
+    let near = [
+        (327_680, 20, 20),
+        (327_680, 22, 22),
+        (327_680, 23, 22),
+        (327_680, 30, 22),
+        (327_680, 19, 20),
+        (327_680, -30, 20),
+        (-327_680, -19, -20),
+        (-327_680, -22, -22),
+        (-327_680, -30, -22),
+    ];
+    for (x, n, pixels) in near {
+        assert_eq!(rt; conv.near(x, n, 1), pixels, "{x} {n}");
+    }
+    assert_eq!(rt; conv.near(0, -1, 0), 0);
 }
 
 #[test]

@@ -4,9 +4,10 @@ use Rattle.std.specs.Prelude.{unsigned_abs}
 use Rattle.std.proofs.lemmas.Bool.Decides.{nat_tests}
 use Rattle.std.proofs.lemmas.Int.{ints, clamps, to_z-of_z, fits_signed_from_abs}
 use Rattle.dv_base.specs.Rounding.{Fraction, IsFine, rounded}
+use Rattle.dv_base.specs.Brought.{brought}
 use Rattle.dv_base.specs.RoundingLaws.{rounded-bound}
 use Rattle.positions.specs.Place.{Place}
-use Rattle.positions.specs.Drift.{near, fits, pixels_behind, pixels_after, is_large_across, is_large_down, advanced, right, down}
+use Rattle.positions.specs.Drift.{fits, pixels_behind, pixels_after, is_large_across, is_large_down, advanced, right, down}
 
 fits-true : (place : ℤ) → unsigned_abs place < 2 ^ 31 → fits place ≡ true
 fits-true place small = grind (arith, nat_tests)
@@ -17,22 +18,10 @@ fits-false place large = grind (arith, nat_tests)
 pub to_z-small : (n : ℤ) → unsigned_abs n < 2 ^ 40 → to_z w64 (of_z w64 n) ≡ n
 to_z-small n small = to_z-of_z w64 n (fits_signed_from_abs w64 n (omega arith))
 
--- what is near enough stays
-pub near-stays : (e t n : ℤ) → pos 0 ≤ℤ e → unsigned_abs (n -ℤ t) ≤ unsigned_abs e → near e t n ≡ n
-unfolding near
-near-stays e t n some close = omega (arith, ints, clamps)
-
--- what is one too far comes one nearer
-pub near-less : (e t n : ℤ) → pos 0 ≤ℤ e → unsigned_abs e < unsigned_abs (n -ℤ t) → unsigned_abs (n -ℤ pos 1 -ℤ t) ≤ unsigned_abs e → near e t n ≡ n -ℤ pos 1
-unfolding near
-near-less e t n some far close = omega (arith, ints, clamps)
-
-pub near-more : (e t n : ℤ) → pos 0 ≤ℤ e → unsigned_abs e < unsigned_abs (n -ℤ t) → unsigned_abs (n +ℤ pos 1 -ℤ t) ≤ unsigned_abs e → near e t n ≡ n +ℤ pos 1
-unfolding near
-near-more e t n some far close = omega (arith, ints, clamps)
-
-pub near-bound : (f : Fraction) → IsFine f → (e place n : ℤ) → pos 0 ≤ℤ e → e ≤ℤ pos 1000 → unsigned_abs place < 2 ^ 31 → unsigned_abs (n -ℤ rounded f place) ≤ unsigned_abs e → unsigned_abs n < 2 ^ 32
-near-bound f fine e place n some few small close = omega (arith, ints, rounded-bound f fine place)
+-- what is brought near the pixels of a place is no larger than they may be
+pub brought-bound : (f : Fraction) → IsFine f → (e place n p : ℤ) → pos 0 ≤ℤ e → e ≤ℤ pos 1000 → unsigned_abs place < 2 ^ 31 → p ≡ brought (rounded f place) e n → unsigned_abs p < 2 ^ 32
+unfolding brought
+brought-bound f fine e place n p some few small is = omega (arith, ints, clamps, is, rounded-bound f fine place)
 
 -- the code's result, and its place behind the move
 pub advanced-some : (f : Fraction) (e : ℤ) (p : Place) (width pixels h hh : ℤ) → h ≡ p.h +ℤ width → unsigned_abs h < 2 ^ 31 → hh ≡ pixels_behind f e h p.hh pixels → advanced f e p width pixels ≡ Some (record p { h = h; hh = hh })

@@ -1,8 +1,7 @@
 //! The current place of a page.
 ghost use Rattle.std.specs.Prelude.{◌≡◌, ◌^◌, ◌<◌, ◌≤◌, pos, ◌+ℤ◌, ◌-ℤ◌, ◌≤ℤ◌, unsigned_abs, Some, None, OnOk, OnErr, IfOk};
-ghost use Rattle.dv_base.specs.Rounding.{rounded};
 ghost use Rattle.positions.specs.Place.{origin};
-ghost use Rattle.positions.specs.Drift.{IsDrift, IsSpace, near, pixels_behind, pixels_after, is_large_across, is_large_down, advanced, right, down};
+ghost use Rattle.positions.specs.Drift.{IsDrift, IsSpace, pixels_behind, pixels_after, is_large_across, is_large_down, advanced, right, down};
 
 use dv_base::Conv;
 use std::marker::Model;
@@ -52,39 +51,7 @@ fn sum(place: i64, by: i64) -> Result<i64, Passed>
     }
 }
 
-/// `pixels`, brought to at most `drift` from `exact`.
-fn near(drift: i64, exact: i64, pixels: i64) -> i64
-    requires drift { IsDrift drift }
-    requires exact { unsigned_abs exact ≤ 2 ^ 30 }
-    ensures value { result ≡ near drift exact pixels }
-    ensures bound { unsigned_abs result < 2 ^ 32 }
-{
-    pixels.clamp(exact - drift, exact + drift)
-}
-
-/// `behind`, which is more than `drift` from the exact pixels of `place`, brought to at most `drift` from them.
-// Behind characters that are rounded up, or down, it is one pixel too far: this is told without a division too.
-fn brought_near(conv: &Conv, drift: i64, place: i64, behind: i64) -> i64
-    requires drift { IsDrift drift }
-    requires place { unsigned_abs place < 2 ^ 31 }
-    requires behind { unsigned_abs behind < 2 ^ 41 }
-    requires far { unsigned_abs drift < unsigned_abs (behind -ℤ rounded conv.now place) }
-    ensures value { result ≡ near drift (rounded conv.now place) behind }
-    ensures bound { unsigned_abs result < 2 ^ 32 }
-{
-    let less = behind - 1;
-    let more = behind + 1;
-    if conv.is_near(place, less, drift) {
-        less
-    } else if conv.is_near(place, more, drift) {
-        more
-    } else {
-        near(drift, conv.round(place), behind)
-    }
-}
-
 /// The pixels behind a character or a rule: those before it and its `width`, at most `drift` from the exact ones of `place`.
-// Behind almost all characters they are near enough, which is told without a division.
 #[inline(always)]
 fn pixels_behind(conv: &Conv, drift: i64, place: i64, pixels: i64, width: i64) -> i64
     requires drift { IsDrift drift }
@@ -94,12 +61,7 @@ fn pixels_behind(conv: &Conv, drift: i64, place: i64, pixels: i64, width: i64) -
     ensures value { result ≡ pixels_behind conv.now drift place pixels width }
     ensures bound { unsigned_abs result < 2 ^ 32 }
 {
-    let behind = pixels + width;
-    if conv.is_near(place, behind, drift) {
-        behind
-    } else {
-        brought_near(conv, drift, place, behind)
-    }
+    conv.near(place, pixels + width, drift)
 }
 
 /// The pixels after a move by `q` to `place`: the exact ones where the move is large.

@@ -1,4 +1,4 @@
-use Rattle.std.proofs.Common.{arith, ◌<◌, ◌^◌, ◌≤◌, ◌≡◌, ◌∙◌, ◌*◌, ◌/◌, to_z, of_z, w32, w64, FitsSigned, rules, ap}
+use Rattle.std.proofs.Common.{arith, ◌<◌, ◌^◌, ◌≤◌, ◌≡◌, ◌∙◌, ◌*◌, ◌/◌, ◌-◌, ℕ, zero, suc, refl, sym, to_z, of_z, w32, w64, FitsSigned, rules, ap}
 use Rattle.std.specs.Prelude.{unsigned_abs}
 use Rattle.std.proofs.lemmas.Int.{to_z-of_z}
 use Rattle.dv_base.proofs.Products.{powers, whole_fits, sum_fits, sum_is, scaled_is}
@@ -24,11 +24,19 @@ few c = rw c.pow-alpha.ensures ((powers c.halved-size.result.1 c.halved-size.ens
 small : (c : goal.After-fraction) → c.from-size.result < 2 ^ 23
 small c = omega (arith, c.from-size.ensures, c.halved-size.ensures.small)
 
-part_is : (c : goal.After-fraction) → c.fraction.result ≡ c.from-size.result * other_bytes c.args.fix / (65536 * (256 / (16 * c.pow-alpha.result)))
-part_is c = c.fraction.ensures.value ∙ ap (λ n. c.from-size.result * n / (65536 * (256 / (16 * c.pow-alpha.result)))) (others_are c)
+beta_is : (times : ℕ) → times ≤ 4 → 2 ^ (4 - times) ≡ 256 / (16 * 2 ^ times)
+beta_is zero h = refl
+beta_is (suc zero) h = refl
+beta_is (suc (suc zero)) h = refl
+beta_is (suc (suc (suc zero))) h = refl
+beta_is (suc (suc (suc (suc zero)))) h = refl
+beta_is (suc (suc (suc (suc (suc n))))) h = absurd (omega (arith, h))
 
-pub fraction-requires-clause-beta : goal.fraction-requires-clause-beta
-fraction-requires-clause-beta c = rw c.pow-alpha.ensures ((powers c.halved-size.result.1 c.halved-size.ensures.few).1)
+part_is : (c : goal.After-fraction) → c.fraction.result ≡ c.from-size.result * other_bytes c.args.fix / (65536 * (256 / (16 * c.pow-alpha.result)))
+part_is c =
+    c.fraction.ensures.value
+    ∙ ap (λ n. c.from-size.result * n / (65536 * 2 ^ (4 - c.halved-size.result.1))) (others_are c)
+    ∙ ap (λ b. c.from-size.result * other_bytes c.args.fix / (65536 * b)) (beta_is c.halved-size.result.1 c.halved-size.ensures.few ∙ ap (λ p. 256 / (16 * p)) (sym c.pow-alpha.ensures))
 
 pub overflow_mul-result-2 : goal.overflow_mul-result-2
 overflow_mul-result-2 c =
