@@ -1,11 +1,9 @@
 -- Definitions by their numbers.
-use Rattle.std.proofs.Common.{◌≡◌, ◌<◌, ◌+◌, ℕ, zero, suc, ℤ, inl, inr, List, [], ◌∷◌, ◌++◌, length, map, take, drop, refl, sym, ap, subst, ◌∙◌, arith, Bool, true, false, slice_index_or, get_or, IsTrue, ◌↔◌, MatchBool}
+use Rattle.std.proofs.Common.{◌≡◌, ◌<◌, ◌+◌, ℕ, zero, suc, ℤ, inl, inr, List, [], ◌∷◌, ◌++◌, length, take, drop, refl, sym, ap, subst, ◌∙◌, arith, Bool, true, false, slice_index_or, get_or, IsTrue, ◌↔◌, MatchBool}
 use Rattle.std.specs.List.{All, Contains}
-use Rattle.std.proofs.lemmas.List.{take_more, map-append, drop_more, take-append-drop}
+use Rattle.std.proofs.lemmas.List.{take_more, drop_more, take-append-drop}
 use Rattle.std.proofs.lemmas.List.Elements.{All-append, All-cons, All-nil}
 use Rattle.dvi_ops.specs.Command.{Definition}
-use Rattle.dvi_ops.specs.View.{def_view}
-use Rattle.dvi_ops.specs.declared.cmd.Def.{Def}
 use Rattle.dvi_doc.specs.Grammar.{Defines, DefinesTwice, AreFonts}
 use Rattle.dvi_doc.specs.Faults.{FontFault}
 use Rattle.dvi_doc.specs.PartFaults.{DefinitionFault}
@@ -37,24 +35,16 @@ in_middle : (xs ys : List Definition) (d : Definition) → Contains (xs ++ d ∷
 in_middle [] ys d = (0, omega arith, refl)
 in_middle (x ∷ xs) ys d = let r = in_middle xs ys d in (suc r.0, omega (arith, r.1), r.2)
 
--- what is wrong with one definition is wrong with all of them
-pub all_fault : (xs ys ds : List Definition) (d : Definition) (e : DocFault) → ds ≡ xs ++ d ∷ ys → DefinitionFault d e → FontFault ds e
+all_fault : (xs ys ds : List Definition) (d : Definition) (e : DocFault) → ds ≡ xs ++ d ∷ ys → DefinitionFault d e → FontFault ds e
 all_fault xs ys ds d (fault.BadName k) w h = (d, subst (λ (l : List Definition). Contains l d) (sym w) (in_middle xs ys d), h.0, h.1)
 all_fault xs ys ds d (fault.BadSize k) w h = (d, subst (λ (l : List Definition). Contains l d) (sym w) (in_middle xs ys d), h.0, h.1)
 all_fault xs ys ds d _ w h = absurd h
 
--- one element of a list, as it is viewed
-pub viewed_more : (defs : List Def) (i : ℕ) (d : Def) → i < length defs → map def_view (take (i + 1) defs) ≡ map def_view (take i defs) ++ def_view (get_or defs i d) ∷ []
-viewed_more defs i d h = ap (map def_view) (take_more defs i d h) ∙ map-append def_view (take i defs) (get_or defs i d ∷ [])
-
-pub viewed_split : (defs : List Def) (i : ℕ) (d : Def) → i < length defs → map def_view defs ≡ map def_view (take i defs) ++ def_view (get_or defs i d) ∷ map def_view (drop (i + 1) defs)
-viewed_split defs i d h =
-    ap (map def_view) (sym (take-append-drop i defs) ∙ ap (λ (l : List Def). take i defs ++ l) (drop_more defs i d h))
-    ∙ map-append def_view (take i defs) (get_or defs i d ∷ drop (i + 1) defs)
-
-pub contains_middle : (defs : List Def) (i : ℕ) (d : Def) → i < length defs → Contains (map def_view defs) (def_view (get_or defs i d))
-contains_middle defs i d h =
-    subst (λ (l : List Definition). Contains l (def_view (get_or defs i d))) (sym (viewed_split defs i d h)) (in_middle (map def_view (take i defs)) (map def_view (drop (i + 1) defs)) (def_view (get_or defs i d)))
+-- what is wrong with the definition at a place
+pub all_fault_at : (ds : List Definition) (i : ℕ) (d : Definition) (e : DocFault) → i < length ds → d ≡ get_or ds i d → DefinitionFault d e → FontFault ds e
+all_fault_at ds i d e h is f =
+    all_fault (take i ds) (drop (i + 1) ds) ds d e
+    (sym (take-append-drop i ds) ∙ ap (λ (l : List Definition). take i ds ++ l) (drop_more ds i d h ∙ ap (λ (x : Definition). x ∷ drop (i + 1) ds) (sym is))) f
 
 -- a font of the number is the definition, or none is
 pub has_by : (b : Bool) (ds : List Definition) (x d : Definition) → (IsTrue b ↔ (x ≡ d)) → Contains ds x → AreFonts ds → x.k ≡ d.k → MatchBool b (Contains ds d) (Contains ds d → ⊥)
@@ -62,7 +52,7 @@ has_by true ds x d h k n s = subst (λ (y : Definition). Contains ds y) (h.0 ref
 has_by false ds x d h k n s = λ m. (let f : false ≡ true = h.1 (once ds x d n k m s) in cc)
 
 -- all are as they should be up to here
-pub all_more : (P : Definition → Type 0) (defs : List Def) (i : ℕ) (d : Def) → i < length defs → All P (map def_view (take i defs)) → P (def_view (get_or defs i d)) → All P (map def_view (take (i + 1) defs))
-all_more P defs i d h all one =
-    subst (λ (l : List Definition). All P l) (sym (viewed_more defs i d h))
-    (All-append P (map def_view (take i defs)) (def_view (get_or defs i d) ∷ []) all (All-cons P (def_view (get_or defs i d)) [] one (All-nil P)))
+pub all_more : (P : Definition → Type 0) (ds : List Definition) (i : ℕ) (d : Definition) → i < length ds → d ≡ get_or ds i d → All P (take i ds) → P d → All P (take (i + 1) ds)
+all_more P ds i d h is all one =
+    subst (λ (l : List Definition). All P l) (sym (take_more ds i d h ∙ ap (λ (x : Definition). take i ds ++ x ∷ []) (sym is)))
+    (All-append P (take i ds) (d ∷ []) all (All-cons P d [] one (All-nil P)))

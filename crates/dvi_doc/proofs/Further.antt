@@ -1,9 +1,9 @@
 -- One command further in each part of a file, and what is wrong where it doesn't go on.
-use Rattle.std.proofs.Common.{◌⊎◌, inr, ◌≡◌, ◌≤◌, ◌<◌, ◌+◌, ◌-◌, ℕ, ℤ, pos, inl, List, [], ◌∷◌, ◌++◌, map, take, drop, refl, sym, ap, subst, ◌∙◌, arith, slice_range}
+use Rattle.std.proofs.Common.{◌⊎◌, inr, ◌≡◌, ◌≤◌, ◌<◌, ◌+◌, ◌-◌, ℕ, ℤ, pos, inl, List, [], ◌∷◌, ◌++◌, take, drop, refl, sym, ap, subst, ◌∙◌, arith, slice_range}
 use Rattle.std.proofs.lemmas.List.{append_assoc, append-nil}
 use Rattle.dvi_ops.specs.Command.{Command, Definition, Preamble, Postamble}
 use Rattle.dvi_ops.specs.Command.Command.{Bop, Eop, Pre, Post, PostPost, FntDef}
-use Rattle.dvi_ops.specs.View.{view, def_view}
+use Rattle.dvi_ops.specs.View.{view}
 use Rattle.dvi_ops.specs.declared.cmd.Cmd.{Cmd}
 use Rattle.dvi_ops.specs.declared.cmd.Cmd.TheVariants as cmd
 use Rattle.dvi_ops.specs.declared.cmd.Def.{Def}
@@ -113,31 +113,31 @@ fillers_append (c ∷ cs) d h i = (h.0, fillers_append cs d h.1 i)
 
 -- ---- the commands of a page so far
 
-abbrev pub HoldsPage : List ℕ → ℕ → ℕ → List Def → List Def → Type 0
+abbrev pub HoldsPage : List ℕ → ℕ → ℕ → List Definition → List Definition → Type 0
 HoldsPage bytes start at old new =
-    (cs : List Placed) × AllInner cs × Lexes start (slice_range bytes start at) cs × (map def_view new ≡ map def_view old ++ definitions_of cs)
+    (cs : List Placed) × AllInner cs × Lexes start (slice_range bytes start at) cs × (new ≡ old ++ definitions_of cs)
 
-pub page_more : (bytes : List ℕ) (start at end : ℕ) (c : Command) (old new newer : List Def) → start ≤ at → SpelledTo bytes at end c → IsInner c → map def_view newer ≡ map def_view new ++ put_definition c [] → HoldsPage bytes start at old new → HoldsPage bytes start end old newer
+pub page_more : (bytes : List ℕ) (start at end : ℕ) (c : Command) (old new newer : List Definition) → start ≤ at → SpelledTo bytes at end c → IsInner c → newer ≡ new ++ put_definition c [] → HoldsPage bytes start at old new → HoldsPage bytes start end old newer
 page_more bytes start at end c old new newer le s i e h = (
   h.0 ++ placed at c ∷ [],
   inner_append h.0 (placed at c) h.1 i,
   lex_more bytes start at end c h.0 le s h.2,
-  e ∙ ap (λ (l : List Definition). l ++ put_definition c []) h.3 ∙ append_assoc (map def_view old) (definitions_of h.0) (put_definition c [])
-      ∙ ap (λ (l : List Definition). map def_view old ++ l) (sym (definitions_append h.0 (placed at c ∷ []))),
+  e ∙ ap (λ (l : List Definition). l ++ put_definition c []) h.3 ∙ append_assoc old (definitions_of h.0) (put_definition c [])
+      ∙ ap (λ (l : List Definition). old ++ l) (sym (definitions_append h.0 (placed at c ∷ []))),
 )
 
-pub page_none : (bytes : List ℕ) (start : ℕ) (old : List Def) → HoldsPage bytes start start old old
+pub page_none : (bytes : List ℕ) (start : ℕ) (old : List Definition) → HoldsPage bytes start start old old
 page_none bytes start old =
     let none : start - start ≡ 0 = omega arith in
-    ([], tt, ap (λ (n : ℕ). take n (drop start bytes)) none, sym (append-nil (map def_view old)))
+    ([], tt, ap (λ (n : ℕ). take n (drop start bytes)) none, sym (append-nil old))
 
 -- ---- the commands behind post so far
 
-abbrev pub HoldsEnding : List ℕ → ℕ → ℕ → List Def → Type 0
+abbrev pub HoldsEnding : List ℕ → ℕ → ℕ → List Definition → Type 0
 HoldsEnding bytes start at defs =
-    (cs : List Placed) × AllFillers cs × Lexes start (slice_range bytes start at) cs × (definitions_of cs ≡ map def_view defs)
+    (cs : List Placed) × AllFillers cs × Lexes start (slice_range bytes start at) cs × (definitions_of cs ≡ defs)
 
-pub ending_more : (bytes : List ℕ) (start at end : ℕ) (c : Command) (old new : List Def) → start ≤ at → SpelledTo bytes at end c → IsFiller c → map def_view new ≡ map def_view old ++ put_definition c [] → HoldsEnding bytes start at old → HoldsEnding bytes start end new
+pub ending_more : (bytes : List ℕ) (start at end : ℕ) (c : Command) (old new : List Definition) → start ≤ at → SpelledTo bytes at end c → IsFiller c → new ≡ old ++ put_definition c [] → HoldsEnding bytes start at old → HoldsEnding bytes start end new
 ending_more bytes start at end c old new le s i e h = (
   h.0 ++ placed at c ∷ [],
   fillers_append h.0 (placed at c) h.1 i,

@@ -4,8 +4,6 @@ use Rattle.std.proofs.lemmas.List.{append_assoc, append-nil, map-append, length-
 use Rattle.std.proofs.lemmas.List.Folds.{drop_split}
 use Rattle.dvi_ops.specs.Command.{Command, Definition, Preamble, Postamble}
 use Rattle.dvi_ops.specs.Command.Command.{Bop, Eop, Pre, Post, PostPost}
-use Rattle.dvi_ops.specs.View.{def_view}
-use Rattle.dvi_ops.specs.declared.cmd.Def.{Def}
 use Rattle.dvi_ops.specs.Spelling.{byte_at}
 use Rattle.dvi_ops.specs.Placed.{Placed, Lexes}
 use Rattle.dvi_doc.specs.Document.{placed, PageOf, Item, File, between, last_bop, commands_of, pages_of, put_definition, definitions_of, definitions_before, document_of}
@@ -59,7 +57,7 @@ no_items bytes start =
     ([], tt, ap (λ (n : ℕ). take n (drop start bytes)) none, refl, refl, refl)
 
 -- a filler more
-pub filler_more : (bytes : List ℕ) (start at end : ℕ) (c : Command) (pages : List Page) (old new : List Def) (last : ℤ) → start ≤ at → SpelledTo bytes at end c → IsFiller c → map def_view new ≡ map def_view old ++ put_definition c [] → HasItems bytes start at pages old last → HasItems bytes start end pages new last
+pub filler_more : (bytes : List ℕ) (start at end : ℕ) (c : Command) (pages : List Page) (old new : List Definition) (last : ℤ) → start ≤ at → SpelledTo bytes at end c → IsFiller c → new ≡ old ++ put_definition c [] → HasItems bytes start at pages old last → HasItems bytes start end pages new last
 filler_more bytes start at end c pages old new last le s i e h =
     let more : List Item = Filler (placed at c) ∷ [] in (
       h.0 ++ more,
@@ -76,7 +74,7 @@ first_is bytes first eop [] a b h = omega (arith, ap length h, range_len bytes f
 first_is bytes first eop (c ∷ cs) a b h = sym h.0
 
 -- a page more
-pub page_gathered : (bytes : List ℕ) (start at first eop next ends : ℕ) (counts : List ℤ) (back last : ℤ) (page : Page) (pages newer : List Page) (old new : List Def) → start ≤ at → SpelledTo bytes at first (Bop counts back) → back ≡ last → FoundPage bytes first eop next ends old new → page_view page ≡ record { at = at; first = first; eop = eop; counts = counts } → newer ≡ pages ++ page ∷ [] → HasItems bytes start at pages old last → HasItems bytes start next newer new (pos at)
+pub page_gathered : (bytes : List ℕ) (start at first eop next ends : ℕ) (counts : List ℤ) (back last : ℤ) (page : Page) (pages newer : List Page) (old new : List Definition) → start ≤ at → SpelledTo bytes at first (Bop counts back) → back ≡ last → FoundPage bytes first eop next ends old new → page_view page ≡ record { at = at; first = first; eop = eop; counts = counts } → newer ≡ pages ++ page ∷ [] → HasItems bytes start at pages old last → HasItems bytes start next newer new (pos at)
 page_gathered bytes start at first eop next ends counts back last page pages newer old new le s e f v w h =
     let cs = f.3.0 in
     let eop_spelled = f.2 in
@@ -96,17 +94,17 @@ page_gathered bytes start at first eop next ends counts back last page pages new
       subst (λ (l : List Placed). Lexes start (slice_range bytes start next) l) (sym (between_append h.0 more (negsuc 0))) all,
       ap (map outline) (pages_append h.0 more) ∙ map-append outline (pages_of h.0) (p ∷ []) ∙ ap (λ (l : List Outline). l ++ outline p ∷ []) h.3
           ∙ ap (λ (o : Outline). map page_view pages ++ o ∷ []) (sym v) ∙ sym (map-append page_view pages (page ∷ [])) ∙ sym (ap (map page_view) w),
-      before_append h.0 more ∙ ap (λ (l : List Definition). l ++ (definitions_of cs ++ [])) h.4 ∙ ap (λ (l : List Definition). map def_view old ++ l) (append-nil (definitions_of cs)) ∙ sym f.3.3,
+      before_append h.0 more ∙ ap (λ (l : List Definition). l ++ (definitions_of cs ++ [])) h.4 ∙ ap (λ (l : List Definition). old ++ l) (append-nil (definitions_of cs)) ∙ sym f.3.3,
       last_append h.0 more (negsuc 0),
     )
 
 -- ---- the whole file
 
-pub file_from : (bytes : List ℕ) (start next ends : ℕ) (head : Preamble) (post : ℕ) (tail : Postamble) (pages : List Page) (old defs : List Def) →
+pub file_from : (bytes : List ℕ) (start next ends : ℕ) (head : Preamble) (post : ℕ) (tail : Postamble) (pages : List Page) (old defs : List Definition) →
     SpelledTo bytes 0 start (Pre head) → head.id ≡ 2 → start ≤ post → HasItems bytes start post pages old tail.back → SpelledTo bytes post next (Post tail) → next ≤ ends →
-    ((cs : List Placed) × AllFillers cs × Lexes next (slice_range bytes next ends) cs × (definitions_of cs ≡ map def_view defs)) →
+    ((cs : List Placed) × AllFillers cs × Lexes next (slice_range bytes next ends) cs × (definitions_of cs ≡ defs)) →
     TrailerAt bytes ends → SpelledTo bytes ends (ends + 6) (PostPost post 2) →
-    (f : File) × IsFile bytes f × (head ≡ (document_of f).head) × (map page_view pages ≡ map outline (document_of f).pages) × (map def_view old ≡ (document_of f).before) × (tail ≡ (document_of f).tail) × (map def_view defs ≡ (document_of f).fonts)
+    (f : File) × IsFile bytes f × (head ≡ (document_of f).head) × (map page_view pages ≡ map outline (document_of f).pages) × (old ≡ (document_of f).before) × (tail ≡ (document_of f).tail) × (defs ≡ (document_of f).fonts)
 file_from bytes start next ends head post tail pages old defs pre id le items at_post fits behind trailer last =
     let f : File = record { head = head; items = items.0; post = post; tail = tail; behind = behind.0; ends = ends } in
     let inside : ends + 10 ≤ length bytes = trailer.0 in

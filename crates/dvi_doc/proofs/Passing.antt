@@ -1,9 +1,7 @@
 -- Commands of a page that were passed over: what is known at their start goes on to their end.
-use Rattle.std.proofs.Common.{◌≡◌, ◌≤◌, ℕ, zero, suc, ℤ, List, [], ◌++◌, map, sym, ap, subst, ◌∙◌, arith}
+use Rattle.std.proofs.Common.{◌≡◌, ◌≤◌, ℕ, zero, suc, ℤ, List, [], ◌++◌, sym, ap, subst, ◌∙◌, arith}
 use Rattle.std.proofs.lemmas.List.{append-nil}
 use Rattle.dvi_ops.specs.Command.{Command, Definition}
-use Rattle.dvi_ops.specs.View.{def_view}
-use Rattle.dvi_ops.specs.declared.cmd.Def.{Def}
 use Rattle.dvi_doc.specs.Document.{put_definition}
 use Rattle.dvi_doc.specs.Order.{Reaches, reading}
 use Rattle.dvi_doc.specs.Order.Part.{Inside}
@@ -14,10 +12,10 @@ pub passed_on : (n : ℕ) (bytes : List ℕ) (start at : ℕ) → PassedTo n byt
 passed_on zero bytes start at p = omega (arith, p)
 passed_on (suc n) bytes start at p = omega (arith, passed_on n bytes start p.0 p.1, p.3.0)
 
-pub same_definitions : (c : Command) (defs : List Def) → put_definition c [] ≡ [] → map def_view defs ≡ map def_view defs ++ put_definition c []
-same_definitions c defs none = sym (append-nil (map def_view defs)) ∙ ap (λ (l : List Definition). map def_view defs ++ l) (sym none)
+pub same_definitions : (c : Command) (defs : List Definition) → put_definition c [] ≡ [] → defs ≡ defs ++ put_definition c []
+same_definitions c defs none = sym (append-nil defs) ∙ ap (λ (l : List Definition). defs ++ l) (sym none)
 
-pub page_passed : (n : ℕ) (bytes : List ℕ) (start at end : ℕ) (old new : List Def) → start ≤ at → PassedTo n bytes at end → HoldsPage bytes start at old new → HoldsPage bytes start end old new
+pub page_passed : (n : ℕ) (bytes : List ℕ) (start at end : ℕ) (old new : List Definition) → start ≤ at → PassedTo n bytes at end → HoldsPage bytes start at old new → HoldsPage bytes start end old new
 page_passed zero bytes start at end old new le p h = subst (λ (k : ℕ). HoldsPage bytes start k old new) (sym p) h
 page_passed (suc n) bytes start at end old new le p h =
     page_more bytes start p.0 end p.2 old new new (omega (arith, le, passed_on n bytes at p.0 p.1)) p.3 p.4 (same_definitions p.2 new p.5) (page_passed n bytes start at p.0 old new le p.1 h)

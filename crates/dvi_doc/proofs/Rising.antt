@@ -1,5 +1,5 @@
 -- Definitions whose numbers rise: no number stands twice, and a search finds each.
-use Rattle.std.proofs.Common.{◌≡◌, ◌<◌, ◌+◌, ◌<ℤ◌, ℕ, zero, suc, ℤ, pos, inl, inr, List, [], ◌∷◌, length, map, get_or, Bool, true, false, nat_lt, refl, sym, ap, subst, ◌∙◌, arith, ltb-true, ltb-false}
+use Rattle.std.proofs.Common.{◌≡◌, ◌<◌, ◌+◌, ◌<ℤ◌, ℕ, zero, suc, ℤ, pos, inl, inr, List, [], ◌∷◌, length, get_or, Bool, true, false, nat_lt, refl, sym, ap, subst, ◌∙◌, arith, ltb-true, ltb-false}
 use Rattle.std.specs.List.{Contains, HoldsAt}
 use Rattle.std.specs.List.Sorted.{IsSortedByKey, IsPartitionPoint, IsNonDecreasingBy}
 use Rattle.std.specs.Ordering.{int_cmp, ordering_index, is_lt}
@@ -12,11 +12,10 @@ use Rattle.std.proofs.lemmas.Int.{ints}
 use Rattle.std.proofs.lemmas.List.{length-map}
 use Rattle.std.proofs.lemmas.List.Sorted.{searchable_from_sorted}
 use Rattle.dvi_ops.specs.Numbered.{Has, HasTwice}
-use Rattle.dvi_ops.specs.View.{def_view}
-use Rattle.dvi_ops.specs.declared.cmd.Def.{Def}
+use Rattle.dvi_ops.specs.Command.{Definition}
 use Rattle.dvi_doc.specs.Grammar.{number_of, numbers_of, Defines}
 use Rattle.dvi_doc.specs.Rising.{number_in, Rise}
-use Rattle.dvi_doc.proofs.Numbering.{number_at, there}
+use Rattle.dvi_doc.proofs.Numbering.{number_at}
 
 -- ---- numbers
 
@@ -65,10 +64,10 @@ greater a b h =
     let f : int_lt a b ≡ true = grind (arith, ints) in
     rw (e, f) refl
 
-in_order : (defs : List Def) → Rise (numbers_of (map def_view defs)) → IsSortedByKey (λ (d : Def). d.k) int_cmp defs
+in_order : (defs : List Definition) → Rise (numbers_of defs) → IsSortedByKey (λ (d : Definition). d.k) int_cmp defs
 in_order defs h i d low l =
-    let ns = numbers_of (map def_view defs) in
-    let long : length ns ≡ length defs = length-map (map def_view defs) number_of ∙ length-map defs def_view in
+    let ns = numbers_of defs in
+    let long : length ns ≡ length defs = length-map defs number_of in
     let here : number_in ns i ≡ (get_or defs i d).k = number_at defs i d (pos 0) (omega (arith, l)) in
     let next : number_in ns (i + 1) ≡ (get_or defs (i + 1) d).k = number_at defs (i + 1) d (pos 0) l in
     let less : number_in ns i <ℤ number_in ns (i + 1) = h i (omega (arith, l, long)) in
@@ -76,20 +75,20 @@ in_order defs h i d low l =
     rw (here, next) at fine
 
 -- the definition that a search finds
-pub found : (defs : List Def) (k : ℤ) (at : ℕ) (f : Def) → at < length defs → HoldsAt (λ (d : Def). int_cmp d.k k ≡ Equal) defs at → f ≡ get_or defs at f
-    → Contains (map def_view defs) (def_view f) × (f.k ≡ k)
+pub found : (defs : List Definition) (k : ℤ) (at : ℕ) (f : Definition) → at < length defs → HoldsAt (λ (d : Definition). int_cmp d.k k ≡ Equal) defs at → f ≡ get_or defs at f
+    → Contains defs f × (f.k ≡ k)
 found defs k at f inside same is =
-    let number : f.k ≡ k = int_ranked f.k k Equal (sym (ap (λ (d : Def). int_cmp d.k k) is ∙ same f)) in
-    ((at, omega (arith, inside, length-map defs def_view), there defs at f inside is), number)
+    let number : f.k ≡ k = int_ranked f.k k Equal (sym (ap (λ (d : Definition). int_cmp d.k k) is ∙ same f)) in
+    ((at, inside, sym is), number)
 
 -- where a search finds none, there is none
-pub absent : (defs : List Def) (k : ℤ) (at : ℕ) → Rise (numbers_of (map def_view defs))
-    → (IsNonDecreasingBy (λ (d : Def). ordering_index (int_cmp d.k k)) defs → IsPartitionPoint (λ (d : Def). int_cmp d.k k ≡ Less) (λ (d : Def). int_cmp d.k k ≡ Greater) defs at)
-    → Defines (map def_view defs) k → ⊥
+pub absent : (defs : List Definition) (k : ℤ) (at : ℕ) → Rise (numbers_of defs)
+    → (IsNonDecreasingBy (λ (d : Definition). ordering_index (int_cmp d.k k)) defs → IsPartitionPoint (λ (d : Definition). int_cmp d.k k ≡ Less) (λ (d : Definition). int_cmp d.k k ≡ Greater) defs at)
+    → Defines defs k → ⊥
 absent defs k at up search has = by (nat_lt j at) refl
   where
     ns : List ℤ
-    ns = numbers_of (map def_view defs)
+    ns = numbers_of defs
 
     r : (j : ℕ) × (j < length ns) × (number_in ns j ≡ k)
     r = place_of ns k has
@@ -98,13 +97,13 @@ absent defs k at up search has = by (nat_lt j at) refl
     j = r.0
 
     inside : j < length defs
-    inside = omega (arith, r.1, length-map (map def_view defs) number_of, length-map defs def_view)
+    inside = omega (arith, r.1, length-map defs number_of)
 
-    none : Def
-    none = record { k = pos 0; checksum = 0; size = pos 0; design = pos 0; name = record { ref_ptr = (0, 0); now = [] }; area = 0 }
+    none : Definition
+    none = record { k = pos 0; checksum = 0; size = pos 0; design = pos 0; name = []; area = 0 }
 
-    point : IsPartitionPoint (λ (d : Def). int_cmp d.k k ≡ Less) (λ (d : Def). int_cmp d.k k ≡ Greater) defs at
-    point = search (searchable_from_sorted int_cmp_total (λ (d : Def). d.k) defs k (in_order defs up))
+    point : IsPartitionPoint (λ (d : Definition). int_cmp d.k k ≡ Less) (λ (d : Definition). int_cmp d.k k ≡ Greater) defs at
+    point = search (searchable_from_sorted int_cmp_total (λ (d : Definition). d.k) defs k (in_order defs up))
 
     tied : int_cmp (get_or defs j none).k k ≡ Equal
     tied = ap (λ (n : ℤ). int_cmp n k) (sym (number_at defs j none (pos 0) inside) ∙ r.2) ∙ tied_itself int_cmp_total k

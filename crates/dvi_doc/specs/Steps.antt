@@ -1,9 +1,8 @@
 -- What the steps of reading a document find: the pages, the postamble and both together. No public clause cites this module.
 use Rattle.std.specs.Prelude.{◌≡◌, ◌≤◌, ◌+◌, ℕ, zero, suc, ℤ, pos, negsuc, Option, Some, None, List, [], ◌++◌, map, slice_range}
-use Rattle.dvi_ops.specs.Command.{Command}
+use Rattle.dvi_ops.specs.Command.{Command, Definition}
 use Rattle.dvi_ops.specs.Command.Command.{Eop, Post, PostPost}
-use Rattle.dvi_ops.specs.View.{def_view, head_view, tail_view}
-use Rattle.dvi_ops.specs.declared.cmd.Def.{Def}
+use Rattle.dvi_ops.specs.View.{head_view, tail_view}
 use Rattle.dvi_ops.specs.Placed.{Placed, Lexes}
 use Rattle.dvi_doc.specs.Document.{Item, File, Document, between, last_bop, pages_of, put_definition, definitions_of, definitions_before, document_of}
 use Rattle.dvi_doc.specs.Grammar.{IsInner, AllInner, AllFillers, AllItems, IsFile}
@@ -31,17 +30,17 @@ PassedTo (suc n) bytes start at =
     (mid : ℕ) × PassedTo n bytes start mid × (c : Command) × SpelledTo bytes mid at c × IsInner c × (put_definition c [] ≡ [])
 
 -- From start on stand the commands of a page and, at eop, its end; their definitions were put behind old.
-abbrev pub FoundPage : List ℕ → ℕ → ℕ → ℕ → ℕ → List Def → List Def → Type 0
+abbrev pub FoundPage : List ℕ → ℕ → ℕ → ℕ → ℕ → List Definition → List Definition → Type 0
 FoundPage bytes start eop next ends old new =
     (start ≤ eop) × (next ≤ ends) × SpelledTo bytes eop next Eop
-    × ((cs : List Placed) × AllInner cs × Lexes start (slice_range bytes start eop) cs × (map def_view new ≡ map def_view old ++ definitions_of cs))
+    × ((cs : List Placed) × AllInner cs × Lexes start (slice_range bytes start eop) cs × (new ≡ old ++ definitions_of cs))
     × ((last : ℤ) → Reaches bytes start (reading Inside last 0) → Reaches bytes next (reading Between last 0))
 
 -- From start to at stand these pages, with fillers between them and these definitions.
-abbrev pub HasItems : List ℕ → ℕ → ℕ → List Page → List Def → ℤ → Type 0
+abbrev pub HasItems : List ℕ → ℕ → ℕ → List Page → List Definition → ℤ → Type 0
 HasItems bytes start at pages earlier last =
     (is : List Item) × AllItems is × Lexes start (slice_range bytes start at) (between (negsuc 0) is) × (map outline (pages_of is) ≡ map page_view pages)
-    × (definitions_before is ≡ map def_view earlier) × (last_bop (negsuc 0) is ≡ last)
+    × (definitions_before is ≡ earlier) × (last_bop (negsuc 0) is ≡ last)
 
 -- From start on stand pages, and then post.
 abbrev pub FoundBody : List ℕ → ℕ → ℕ → Body → Type 0
@@ -50,16 +49,16 @@ FoundBody bytes start ends b =
     × Reaches bytes b.next (reading Behind b.tail.back b.post)
 
 -- From start to ends stand fillers with these definitions.
-abbrev pub FoundEnding : List ℕ → ℕ → ℕ → List Def → Type 0
+abbrev pub FoundEnding : List ℕ → ℕ → ℕ → List Definition → Type 0
 FoundEnding bytes start ends defs =
-    ((cs : List Placed) × AllFillers cs × Lexes start (slice_range bytes start ends) cs × (definitions_of cs ≡ map def_view defs))
+    ((cs : List Placed) × AllFillers cs × Lexes start (slice_range bytes start ends) cs × (definitions_of cs ≡ defs))
     × ((last : ℤ) (post : ℕ) → Reaches bytes start (reading Behind last post) → Reaches bytes ends (reading Behind last post))
 
 -- the document's parts as they were found
 abbrev pub PartsOf : Parts → Document → Type 0
 PartsOf p doc =
-    (head_view p.head ≡ doc.head) × (map page_view p.body.pages.items ≡ map outline doc.pages) × (map def_view p.body.earlier.items ≡ doc.before)
-    × (tail_view p.body.tail ≡ doc.tail) × (map def_view p.fonts.items ≡ doc.fonts)
+    (head_view p.head ≡ doc.head) × (map page_view p.body.pages.items ≡ map outline doc.pages) × (p.body.earlier.items ≡ doc.before)
+    × (tail_view p.body.tail ≡ doc.tail) × (p.fonts.items ≡ doc.fonts)
 
 -- the bytes are a file's, with these parts
 abbrev pub FoundParts : List ℕ → Parts → Type 0

@@ -1,15 +1,15 @@
 //! A document that was read.
 ghost use Rattle.std.specs.Prelude.{◌≡◌, ◌≤◌, ◌<◌, ◌^◌, ℕ, List, length, map, slice_range, slice_get, IfOk, IfErr, Some, IfSome, MatchOption};
 ghost use Rattle.std.specs.List.{All, Contains};
-ghost use Rattle.dvi_ops.specs.View.{def_view, head_view, tail_view};
+ghost use Rattle.dvi_ops.specs.View.{head_view, tail_view};
 ghost use Rattle.dvi_doc.specs.Document.{Document, PageOf};
 ghost use Rattle.dvi_ops.specs.Placed.{Lexes};
 ghost use Rattle.dvi_doc.specs.Grammar.{IsDoc, NoDoc, AllInner, Defines, IsNamed, IsSized};
 ghost use Rattle.dvi_doc.specs.View.{IsRead, Outline, outline, page_view};
 ghost use Rattle.dvi_doc.specs.Faults.{FaultIn, NoneBut};
 
-use crate::FontDef;
 use crate::fault::DocFault;
+use crate::font_def::FontDef;
 use crate::fonts::Fonts;
 use crate::page::Page;
 use crate::parts::read_parts;
@@ -104,16 +104,16 @@ impl<'a> Doc<'a> {
 
     /// The font that the postamble defines by this number; `None` exactly where it defines none.
     pub fn font(&self, k: i64) -> Option<&FontDef<'a>>
-        ensures found { MatchOption result (Defines self.now.fonts k → ⊥) (λ font. Contains self.now.fonts (def_view font.now) × (font.now.k ≡ k)) }
-        ensures named { IfSome result (λ font. IsNamed (def_view font.now)) }
-        ensures sized { IfSome result (λ font. IsSized (def_view font.now)) }
+        ensures found { MatchOption result (Defines self.now.fonts k → ⊥) (λ font. Contains self.now.fonts font.now × (font.now.k ≡ k)) }
+        ensures named { IfSome result (λ font. IsNamed font.now) }
+        ensures sized { IfSome result (λ font. IsSized font.now) }
     {
         self.fonts.get(k)
     }
 
     /// The fonts in the order in which the postamble defines them.
     pub fn fonts(&self) -> &[FontDef<'a>]
-        ensures fonts { map def_view result.now ≡ self.now.fonts }
+        ensures fonts { result.now ≡ self.now.fonts }
         ensures named { All IsNamed self.now.fonts }
         ensures sized { All IsSized self.now.fonts }
     {

@@ -53,10 +53,14 @@ pub fn check_font(def: &Def<'_>) -> Result<(), DocFault>
     ensures fault { IfErr result (DefinitionFault (def_view def.now)) }
 {
     if !is_font_name(def.name) {
-        return Err(DocFault::BadName { k: def.k });
+        return Err(DocFault::BadName {
+            k: i64::from(def.k),
+        });
     }
     if !are_sizes(def.size, def.design) {
-        return Err(DocFault::BadSize { k: def.k });
+        return Err(DocFault::BadSize {
+            k: i64::from(def.k),
+        });
     }
     Ok(())
 }

@@ -15,6 +15,7 @@
 mod doc;
 mod fault;
 mod font;
+mod font_def;
 mod fonts;
 mod front;
 mod laws;
@@ -27,9 +28,9 @@ mod tail;
 mod trailer;
 
 pub use doc::Doc;
-pub use dvi_ops::Def as FontDef;
 pub use fault::DocFault;
 pub use font::FontKey;
+pub use font_def::FontDef;
 pub use laws::one_document;
 pub use page::Page;
 

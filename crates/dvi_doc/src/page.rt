@@ -8,8 +8,9 @@ ghost use Rattle.dvi_doc.specs.Faults.{FaultIn};
 ghost use Rattle.dvi_doc.specs.Steps.{EndsAt, FoundPage};
 
 use crate::fault::DocFault;
+use crate::font_def::FontDef;
 use crate::step::{pass_commands, read_command};
-use dvi_ops::{Cmd, Def};
+use dvi_ops::Cmd;
 
 /// A page by its places: of its bop, of the first command behind that and of its eop. `counts` are the ten counts of its bop.
 #[derive(Clone, Copy, Debug, PartialEq, Eq)]
@@ -39,7 +40,7 @@ pub fn read_page<'a>(
     bytes: &'a [u8],
     start: usize,
     ends: usize,
-    earlier: &mut Vec<Def<'a>>,
+    earlier: &mut Vec<FontDef<'a>>,
 ) -> Result<(usize, usize), DocFault>
     requires small { length bytes.now ≤ 2 ^ 26 }
     requires trailer { EndsAt bytes.now ends }
@@ -53,8 +54,8 @@ pub fn read_page<'a>(
         let (cmd, end) = read_command(bytes, at, ends)?;
         match cmd {
             Cmd::Eop => return Ok((at, end)),
-            Cmd::FntDef(def) => {
-                earlier.push(def)?;
+            Cmd::FntDef(_) => {
+                earlier.push(FontDef::between(bytes, at, end))?;
                 at = pass_commands(bytes, end, ends);
             }
             other => {

@@ -7,9 +7,10 @@ ghost use Rattle.dvi_doc.specs.PartFaults.{BackFault};
 ghost use Rattle.dvi_doc.specs.Steps.{EndsAt, FoundBody, last_of};
 
 use crate::fault::DocFault;
+use crate::font_def::FontDef;
 use crate::page::{Page, read_page};
 use crate::step::read_command;
-use dvi_ops::{Cmd, Def, Tail};
+use dvi_ops::{Cmd, Tail};
 use std::alloc::Global;
 
 /// What stands between the preamble and the postamble's definitions.
@@ -18,7 +19,7 @@ pub struct Body<'a> {
     /// The pages, in file order.
     pub pages: Vec<Page>,
     /// The font definitions between and inside them.
-    pub earlier: Vec<Def<'a>>,
+    pub earlier: Vec<FontDef<'a>>,
     /// The place of `post`.
     pub post: usize,
     /// What `post` says.
@@ -66,8 +67,8 @@ pub fn read_pages<'a>(
         let (cmd, end) = read_command(bytes, at, ends)?;
         match cmd {
             Cmd::Nop => at = end,
-            Cmd::FntDef(def) => {
-                earlier.push(def)?;
+            Cmd::FntDef(_) => {
+                earlier.push(FontDef::between(bytes, at, end))?;
                 at = end;
             }
             Cmd::Bop { counts, back } => {

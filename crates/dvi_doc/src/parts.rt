@@ -4,11 +4,12 @@ ghost use Rattle.dvi_doc.specs.Faults.{FaultIn};
 ghost use Rattle.dvi_doc.specs.Steps.{FoundParts};
 
 use crate::fault::DocFault;
+use crate::font_def::FontDef;
 use crate::front::read_preamble;
 use crate::pages::{Body, read_pages};
 use crate::postamble::read_postamble;
 use crate::trailer::read_trailer;
-use dvi_ops::{Def, Head, one_spelling};
+use dvi_ops::{Head, one_spelling};
 use std::alloc::Global;
 
 /// The parts of a file.
@@ -19,12 +20,13 @@ pub struct Parts<'a> {
     /// Pages and `post`.
     pub body: Body<'a>,
     /// The definitions behind `post`.
-    pub fonts: Vec<Def<'a>>,
+    pub fonts: Vec<FontDef<'a>>,
 }
 
 /// Reads a file from its end and then from its start, up to its end again.
 pub fn read_parts<'a>(alloc: Global, bytes: &'a [u8]) -> Result<Parts<'a>, DocFault>
     requires { length bytes.now ≤ 2 ^ 26 }
+    ensures few { IfOk result (λ parts. length parts.fonts.items ≤ length bytes.now) }
     ensures found { IfOk result (FoundParts bytes.now) }
     ensures fault { IfErr result (FaultIn bytes.now) }
 {

@@ -6,9 +6,13 @@ ghost use Rattle.dvi_doc.specs.Faults.{FaultIn};
 ghost use Rattle.dvi_doc.specs.Steps.{EndsAt, FoundEnding};
 
 use crate::fault::DocFault;
+use crate::font_def::FontDef;
 use crate::step::{pass_definition, read_command};
-use dvi_ops::{Cmd, Def};
+use dvi_ops::Cmd;
 use std::alloc::Global;
+
+/// How many bytes a definition has that has no name: none is shorter.
+const SHORTEST: usize = 16;
 
 /// The definitions from `start`, the place behind `post`, up to the trailer's `post_post` at `ends`.
 pub fn read_postamble<'a>(
@@ -16,15 +20,16 @@ pub fn read_postamble<'a>(
     bytes: &'a [u8],
     start: usize,
     ends: usize,
-) -> Result<Vec<Def<'a>>, DocFault>
+) -> Result<Vec<FontDef<'a>>, DocFault>
     requires small { length bytes.now ≤ 2 ^ 26 }
     requires trailer { EndsAt bytes.now ends }
     requires inside { start ≤ ends }
     requires reached { (last : ℤ) × (post : ℕ) × Reaches bytes.now start (reading Behind last post) }
+    ensures few { IfOk result (λ fonts. length fonts.items ≤ length bytes.now) }
     ensures found { IfOk result (λ fonts. FoundEnding bytes.now start ends fonts.items) }
     ensures fault { IfErr result (FaultIn bytes.now) }
 {
-    let mut fonts = Vec::new(alloc);
+    let mut fonts = Vec::with_capacity(alloc, (ends - start) / SHORTEST)?;
     let mut at = start;
     while at < ends {
         if let Some((def, end)) = pass_definition(bytes, at, ends) {
@@ -35,8 +40,8 @@ pub fn read_postamble<'a>(
         let (cmd, end) = read_command(bytes, at, ends)?;
         match cmd {
             Cmd::Nop => at = end,
-            Cmd::FntDef(def) => {
-                fonts.push(def)?;
+            Cmd::FntDef(_) => {
+                fonts.push(FontDef::between(bytes, at, end))?;
                 at = end;
             }
             _ => return Err(DocFault::BadOrder { at: at as u32 }),

@@ -4,13 +4,14 @@ ghost use Rattle.dvi_ops.specs.Command.{Command};
 ghost use Rattle.dvi_ops.specs.Command.Command.{FntDef};
 ghost use Rattle.dvi_doc.specs.Document.{put_definition};
 ghost use Rattle.dvi_doc.specs.Grammar.{IsInner};
-ghost use Rattle.dvi_ops.specs.View.{view, def_view};
+ghost use Rattle.dvi_ops.specs.View.{view};
 ghost use Rattle.dvi_doc.specs.Order.{Reading, Reaches, SpelledTo};
 ghost use Rattle.dvi_doc.specs.Faults.{FaultIn};
 ghost use Rattle.dvi_doc.specs.Steps.{EndsAt, PassedTo};
 
 use crate::fault::DocFault;
-use dvi_ops::{Cmd, Def, OpFault, definition_at, next_cmd, pass};
+use crate::font_def::FontDef;
+use dvi_ops::{Cmd, OpFault, definition_end, next_cmd, pass};
 
 /// The command at a place that reading came to, and the place behind it, which isn't past the trailer's `post_post`.
 pub fn read_command(bytes: &[u8], at: usize, ends: usize) -> Result<(Cmd<'_>, usize), DocFault>
@@ -68,11 +69,15 @@ pub fn pass_commands(bytes: &[u8], start: usize, ends: usize) -> usize
 /// The font definition at a place, and the place behind it, where one stands there that ends before the trailer's `post_post`; `None`
 /// elsewhere. [`read_command`] tells what else stands there.
 #[inline(always)]
-pub fn pass_definition(bytes: &[u8], at: usize, ends: usize) -> Option<(Def<'_>, usize)>
+pub fn pass_definition(bytes: &[u8], at: usize, ends: usize) -> Option<(FontDef<'_>, usize)>
     requires before { at < ends }
     requires inside { ends ≤ length bytes.now }
-    ensures { IfSome result (λ r. SpelledTo bytes.now at r.1 (FntDef (def_view r.0)) × (r.1 ≤ ends)) }
+    ensures { IfSome result (λ r. SpelledTo bytes.now at r.1 (FntDef r.0) × (r.1 ≤ ends)) }
 {
-    let (def, end) = definition_at(bytes, at)?;
-    if end <= ends { Some((def, end)) } else { None }
+    let end = definition_end(bytes, at)?;
+    if end <= ends {
+        Some((FontDef::between(bytes, at, end), end))
+    } else {
+        None
+    }
 }

@@ -182,10 +182,10 @@ fn parts_of_a_document(rt: HostRuntime) -> Result<(), Fail> {
     let Some(font) = doc.font(0) else {
         return Err("font 0".into());
     };
-    let key = FontKey::of(font);
+    let key = FontKey::of(&font.def());
     assert_eq!(rt; key.name.as_str(), "cmr10");
     assert_eq!(rt;
-        (font.k, key.checksum, key.size, key.design),
+        (font.k(), key.checksum, key.size, key.design),
         (0, 0, 655_360, 655_360)
     );
     assert_eq!(rt; doc.fonts().len(), 1);

@@ -1,72 +1,104 @@
--- Pairs in order of their numbers.
-use Rattle.std.proofs.Common.{◌≡◌, ◌<◌, ◌≤◌, ◌+◌, ℕ, ℤ, pos, List, length, get_or, Bool, true, false, nat_lt, arith, refl, sym, ap, ◌∙◌, ltb-true, ltb-false}
-use Rattle.std.specs.List.{Contains, HoldsAt}
-use Rattle.std.specs.List.Sorted.{IsSortedByKey, IsPartitionPoint, IsNonDecreasingBy}
-use Rattle.std.specs.Ordering.{int_cmp, ordering_index, ordering_reverse, is_lt}
-use Rattle.std.specs.declared.cmp.Ordering.{Ordering}
-use Rattle.std.specs.declared.cmp.Ordering.TheVariants.{Less, Equal, Greater}
-use Rattle.std.specs.Cmp.{IsStrictWeakOrder, int_ranked}
-use Rattle.std.proofs.lemmas.Cmp.{int_cmp_total, tied_itself}
-use Rattle.std.proofs.lemmas.List.{get_or_default}
-use Rattle.std.proofs.lemmas.List.Sorted.{ranks_by, sorted_far, searchable_from_sorted}
-use Rattle.dvi_ops.specs.NumberIndex.{number_at, StandsTwice}
-
-weak : IsStrictWeakOrder (λ (a b : ℤ × ℕ). is_lt (int_cmp a.0 b.0))
-weak = ranks_by int_cmp_total (λ (t : ℤ × ℕ). t.0)
+-- Words in order: the pairs that they hold.
+use Rattle.std.proofs.Common.{◌≡◌, ◌<◌, ◌≤◌, ◌+◌, ◌/◌, ◌%◌, ◌^◌, ◌-ℤ◌, ◌≤ℤ◌, ℕ, zero, suc, ℤ, pos, List, [], ◌∷◌, length, map, get_or, Bool, true, false, nat_lt, arith, refl, sym, ap, ◌∙◌, ltb-true, ltb-false}
+use Rattle.std.specs.List.{Contains}
+use Rattle.std.specs.List.Sorted.{IsPartitionPoint, IsPartitionedBy, IsNonDecreasing}
+use Rattle.std.specs.Prelude.{int_lt}
+use Rattle.std.proofs.lemmas.Int.{ints}
+use Rattle.std.proofs.lemmas.List.{length-map, get_or_default}
+use Rattle.dvi_ops.specs.NumberIndex.{number_at, pair_of, StandsTwice}
 
 -- the number of the pair at a place
-pub numbered_by : (pairs : List (ℤ × ℕ)) (at : ℕ) (e : ℤ × ℕ) → at < length pairs → e ≡ get_or pairs at e → number_at pairs at ≡ e.0
-numbered_by pairs at e inside is = ap (λ (y : ℤ × ℕ). y.0) (get_or_default pairs at (pos 0, 0) e inside ∙ sym is)
+pub number_there : (words : List ℕ) (at : ℕ) → at < length words → number_at (map pair_of words) at ≡ (pair_of (get_or words at 0)).0
+number_there [] at h = absurd (omega (arith, h))
+number_there (w ∷ words) zero h = refl
+number_there (w ∷ words) (suc at) h = number_there words at (omega (arith, h))
+
+-- the pair at a place
+pair_there : (words : List ℕ) (at : ℕ) (d : ℤ × ℕ) → at < length words → get_or (map pair_of words) at d ≡ pair_of (get_or words at 0)
+pair_there [] at d h = absurd (omega (arith, h))
+pair_there (w ∷ words) zero d h = refl
+pair_there (w ∷ words) (suc at) d h = pair_there words at d (omega (arith, h))
+
+-- the number of a word that stands at a place
+pub number_by : (words : List ℕ) (at w : ℕ) → at < length words → w ≡ get_or words at w → number_at (map pair_of words) at ≡ (pair_of w).0
+number_by words at w inside is = number_there words at inside ∙ ap (λ (v : ℕ). (pair_of v).0) (get_or_default words at 0 w inside ∙ sym is)
+
+-- words whose numbers are equal have equal upper halves
+upper : (v w : ℕ) → (pair_of v).0 ≡ (pair_of w).0 → v / 2 ^ 32 ≡ w / 2 ^ 32
+upper v w h = omega (arith, ints, h)
 
 -- the pair that a search finds
-pub there : (pairs : List (ℤ × ℕ)) (k : ℤ) (at : ℕ) (e : ℤ × ℕ) → at < length pairs → HoldsAt (λ y. int_cmp y.0 k ≡ Equal) pairs at → e ≡ get_or pairs at e
-    → Contains pairs (k, e.1)
-there pairs k at e inside same is =
-    let number : e.0 ≡ k = int_ranked e.0 k Equal (sym (ap (λ (y : ℤ × ℕ). int_cmp y.0 k) is ∙ same e)) in
-    (at, inside, get_or_default pairs at (k, e.1) e inside ∙ sym is ∙ ap (λ (n : ℤ). (n, e.1)) number)
+pub there : (words : List ℕ) (k : ℤ) (at w : ℕ) → at < length words → w ≡ get_or words at 0 → (pair_of w).0 ≡ k → Contains (map pair_of words) (k, (pair_of w).1)
+there words k at w inside is same =
+    (at, omega (arith, inside, length-map words pair_of), pair_there words at (k, (pair_of w).1) inside ∙ ap pair_of (sym is) ∙ ap (λ (n : ℤ). (n, (pair_of w).1)) same)
 
--- where a search finds none, there is none
-pub absent : (pairs : List (ℤ × ℕ)) (k : ℤ) (at : ℕ) → IsSortedByKey (λ (pair : ℤ × ℕ). pair.0) int_cmp pairs
-    → (IsNonDecreasingBy (λ y. ordering_index (int_cmp y.0 k)) pairs → IsPartitionPoint (λ y. int_cmp y.0 k ≡ Less) (λ y. int_cmp y.0 k ≡ Greater) pairs at)
-    → (place : ℕ) → Contains pairs (k, place) → ⊥
-absent pairs k at up search place h = by (nat_lt h.0 at) refl where
-  point : IsPartitionPoint (λ y. int_cmp y.0 k ≡ Less) (λ y. int_cmp y.0 k ≡ Greater) pairs at
-  point = search (searchable_from_sorted int_cmp_total (λ (t : ℤ × ℕ). t.0) pairs k up)
+-- words in order have their numbers in order
+in_order : (v w : ℕ) → v ≤ w → (pair_of v).0 ≤ℤ (pair_of w).0
+in_order v w h = omega (arith, ints, h)
 
-  tied : int_cmp (get_or pairs h.0 (k, place)).0 k ≡ Equal
-  tied = ap (λ (y : ℤ × ℕ). int_cmp y.0 k) h.2 ∙ tied_itself int_cmp_total k
+pub searchable : (words : List ℕ) (k : ℤ) → IsNonDecreasing words → IsPartitionedBy (λ w. int_lt (pair_of w).0 k) words
+searchable words k up i j d far inside below =
+    let low = in_order (get_or words i d) (get_or words j d) (up i j d far inside) in
+    grind (arith, ints)
 
-  by : (b : Bool) → nat_lt h.0 at ≡ b → ⊥
-  by true e = let less : int_cmp (get_or pairs h.0 (k, place)).0 k ≡ Less = point.0 h.0 (k, place) (omega arith) (ltb-true h.0 at e) in let no : Less ≡ Equal = sym less ∙ tied in cc
-  by false e = let more : int_cmp (get_or pairs h.0 (k, place)).0 k ≡ Greater = point.1 h.0 (k, place) (ltb-false h.0 at e) h.1 in let no : Greater ≡ Equal = sym more ∙ tied in cc
+between : (a b k : ℤ) → int_lt a k ≡ false → a ≤ℤ b → b ≡ k → a ≡ k
+between a b k above before is = grind (arith, ints)
+
+not_below : (a k : ℤ) → int_lt a k ≡ true → a ≡ k → ⊥
+not_below a k below is = grind (arith, ints)
+
+-- Where the first word whose number isn't below k has another number, no word has it.
+pub absent : (words : List ℕ) (k : ℤ) (at : ℕ) → IsNonDecreasing words
+    → IsPartitionPoint (λ w. int_lt (pair_of w).0 k ≡ true) (λ w. int_lt (pair_of w).0 k ≡ false) words at
+    → (at < length words → (pair_of (get_or words at 0)).0 ≡ k → ⊥) → (place : ℕ) → Contains (map pair_of words) (k, place) → ⊥
+absent words k at up point other place h = by (nat_lt j at) refl where
+  j : ℕ
+  j = h.0
+
+  inside : j < length words
+  inside = omega (arith, h.1, length-map words pair_of)
+
+  number : (pair_of (get_or words j 0)).0 ≡ k
+  number = ap (λ (p : ℤ × ℕ). p.0) (sym (pair_there words j (k, place) inside) ∙ h.2)
+
+  by : (b : Bool) → nat_lt j at ≡ b → ⊥
+  by true e = not_below (pair_of (get_or words j 0)).0 k (point.0 j 0 (omega arith) (ltb-true j at e)) number
+  by false e =
+      let far : at ≤ j = ltb-false j at e in
+      let above : int_lt (pair_of (get_or words at 0)).0 k ≡ false = point.1 at 0 (omega arith) (omega (arith, far, inside)) in
+      let before : (pair_of (get_or words at 0)).0 ≤ℤ (pair_of (get_or words j 0)).0 = in_order (get_or words at 0) (get_or words j 0) (up at j 0 far inside) in
+      other (omega (arith, far, inside)) (between (pair_of (get_or words at 0)).0 (pair_of (get_or words j 0)).0 k above before number)
 
 -- where no two neighbours have one number, no two pairs have
-pub apart : (pairs : List (ℤ × ℕ)) → IsSortedByKey (λ (pair : ℤ × ℕ). pair.0) int_cmp pairs → (at : ℕ) → length pairs ≤ at
-    → ((i : ℕ) → i + 1 < at → number_at pairs i ≡ number_at pairs (i + 1) → ⊥) → (k : ℤ) → StandsTwice pairs k → ⊥
-apart pairs up at all other k h = other h.0 (omega (arith, h.2, h.3)) same where
-  d : ℤ × ℕ
-  d = (pos 0, 0)
-
+pub apart : (words : List ℕ) → IsNonDecreasing words → (at : ℕ) → length words ≤ at
+    → ((i : ℕ) → i + 1 < at → number_at (map pair_of words) i ≡ number_at (map pair_of words) (i + 1) → ⊥) → (k : ℤ) → StandsTwice (map pair_of words) k → ⊥
+apart words up at all other k h = other i (omega (arith, next, all)) (first ∙ ap (λ (n : ℕ). pos n -ℤ pos (2 ^ 31)) same ∙ sym second) where
   i : ℕ
   i = h.0
 
   j : ℕ
   j = h.1
 
-  low : is_lt (int_cmp (number_at pairs (i + 1)) (number_at pairs i)) ≡ false
-  low = sorted_far (λ (a b : ℤ × ℕ). is_lt (int_cmp a.0 b.0)) weak pairs up i (i + 1) d (omega arith) (omega (arith, h.2, h.3))
+  inside : j < length words
+  inside = omega (arith, h.3, length-map words pair_of)
 
-  high : is_lt (int_cmp (number_at pairs j) (number_at pairs (i + 1))) ≡ false
-  high = sorted_far (λ (a b : ℤ × ℕ). is_lt (int_cmp a.0 b.0)) weak pairs up (i + 1) j d (omega (arith, h.2)) h.3
+  next : i + 1 < length words
+  next = omega (arith, h.2, inside)
 
-  back : is_lt (int_cmp (number_at pairs i) (number_at pairs (i + 1))) ≡ false
-  back = ap (λ (n : ℤ). is_lt (int_cmp n (number_at pairs (i + 1)))) (h.4 ∙ sym h.5) ∙ high
+  first : number_at (map pair_of words) i ≡ (pair_of (get_or words i 0)).0
+  first = number_there words i (omega (arith, next))
 
-  same : number_at pairs i ≡ number_at pairs (i + 1)
-  same = neither (number_at pairs i) (number_at pairs (i + 1)) back low where
-    neither : (a b : ℤ) → is_lt (int_cmp a b) ≡ false → is_lt (int_cmp b a) ≡ false → a ≡ b
-    neither a b p q = by (int_cmp a b) refl where
-      by : (r : Ordering) → int_cmp a b ≡ r → a ≡ b
-      by Less e = let no : true ≡ false = sym (ap is_lt e) ∙ p in cc
-      by Equal e = int_ranked a b Equal (sym e)
-      by Greater e = let no : true ≡ false = sym (ap is_lt (int_cmp_total.antisymm b a ∙ ap ordering_reverse e)) ∙ q in cc
+  second : number_at (map pair_of words) (i + 1) ≡ (pair_of (get_or words (i + 1) 0)).0
+  second = number_there words (i + 1) next
+
+  half : get_or words i 0 / 2 ^ 32 ≡ get_or words j 0 / 2 ^ 32
+  half = upper (get_or words i 0) (get_or words j 0) (sym first ∙ (h.4 ∙ sym h.5) ∙ number_there words j inside)
+
+  low : get_or words i 0 ≤ get_or words (i + 1) 0
+  low = up i (i + 1) 0 (omega arith) next
+
+  high : get_or words (i + 1) 0 ≤ get_or words j 0
+  high = up (i + 1) j 0 (omega (arith, h.2)) inside
+
+  same : get_or words i 0 / 2 ^ 32 ≡ get_or words (i + 1) 0 / 2 ^ 32
+  same = omega (arith, half, low, high)

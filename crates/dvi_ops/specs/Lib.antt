@@ -9,3 +9,4 @@ pub mod Laws
 pub mod Plain
 pub mod Numbered
 pub mod NumberIndex
+pub mod Defined

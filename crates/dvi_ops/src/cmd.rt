@@ -9,7 +9,7 @@ use thiserror::Error;
 #[derive(Clone, Copy, Debug)]
 pub struct Def<'a> {
     /// The number by which the file selects the font.
-    pub k: i64,
+    pub k: i32,
     /// The check sum that the font's metric file should have.
     pub checksum: u32,
     /// The size at which the font is used.

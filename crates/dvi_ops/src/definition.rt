@@ -1,21 +1,21 @@
-//! Font definitions that follow one another.
-ghost use Rattle.std.specs.Prelude.{◌≤◌, ◌<◌, length, slice_range, IfSome};
-ghost use Rattle.dvi_ops.specs.Command.Command.{FntDef};
-ghost use Rattle.dvi_ops.specs.Spelling.{Spell};
+//! Font definitions in their bytes.
+ghost use Rattle.std.specs.Prelude.{◌≡◌, ◌≤◌, ◌<◌, length, slice_range, IfSome};
+ghost use Rattle.dvi_ops.specs.Defined.{defined, IsDefinition};
 ghost use Rattle.dvi_ops.specs.View.{def_view};
 
 use crate::cmd::Def;
 use crate::length::{fixed_len, text_len};
+use crate::number::code;
 use crate::read::read_def;
 
-/// The font definition at a place, and the place behind it, where one stands there that is whole; `None` elsewhere. [`next_cmd`](crate::next_cmd) tells
-/// what else stands there.
+/// The place behind the font definition at a place, where one stands there that is whole; `None` elsewhere.
+/// [`next_cmd`](crate::next_cmd) tells what else stands there.
 // Of use where many definitions follow one another: no value of the largest command's size is made for each.
 #[inline(always)]
 #[tactic(auto, unfolding(crate::specs::Spelling::fixed_len))]
-pub fn definition_at(bytes: &[u8], at: usize) -> Option<(Def<'_>, usize)>
+pub fn definition_end(bytes: &[u8], at: usize) -> Option<usize>
     requires { at < length bytes.now }
-    ensures { IfSome result (λ r. (at < r.1) × (r.1 ≤ length bytes.now) × Spell (FntDef (def_view r.0)) (slice_range bytes.now at r.1)) }
+    ensures { IfSome result (λ end. (at < end) × (end ≤ length bytes.now) × IsDefinition (slice_range bytes.now at end)) }
 {
     let op = bytes[at];
     if op < 243 || 246 < op {
@@ -30,5 +30,22 @@ pub fn definition_at(bytes: &[u8], at: usize) -> Option<(Def<'_>, usize)>
     if rest.len() < len {
         return None;
     }
-    Some((read_def(op as usize - 242, &rest[..len]), at + 1 + len))
+    Some(at + 1 + len)
+}
+
+/// The definition that bytes spell.
+pub fn definition_of(bytes: &[u8]) -> Def<'_>
+    requires { IsDefinition bytes.now }
+    ensures { def_view result ≡ defined bytes.now }
+{
+    read_def(bytes[0] as usize - 242, &bytes[1..])
+}
+
+/// The number by which the definition that bytes spell selects its font.
+#[tactic(auto, unfolding(crate::specs::Spelling::definition))]
+pub fn number_of(bytes: &[u8]) -> i32
+    requires { IsDefinition bytes.now }
+    ensures { result ≡ (defined bytes.now).k }
+{
+    code(&bytes[1..], bytes[0] as usize - 242)
 }

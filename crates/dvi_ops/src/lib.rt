@@ -26,10 +26,10 @@ mod put;
 mod read;
 
 pub use cmd::{Cmd, Def, Head, OpFault, Tail};
-pub use definition::definition_at;
+pub use definition::{definition_end, definition_of, number_of};
 pub use following::command_at;
 pub use laws::{one_reading, one_spelling, shortest_spelling, spelled_has_room};
-pub use number_index::NumberIndex;
+pub use number_index::{NumberIndex, Numbers};
 pub use plain::{is_nop, pass};
 pub use put::{CmdBytes, put_cmd};
 pub use read::next_cmd;

@@ -250,7 +250,7 @@ fn put_def(def: &Def<'_>, out: &mut CmdBytes)
     ensures value { out.new.items ≡ definition_bytes (def_view def.now) }
     ensures room { DefinitionHasRoom (def_view def.now) }
 {
-    put_code(242, def.k, out);
+    put_code(242, i64::from(def.k), out);
     put_number(def.checksum, 4, out);
     put_word(def.size, out);
     put_word(def.design, out);

@@ -119,12 +119,12 @@ fn read_low<'a>(op: u8, args: &'a [u8]) -> Cmd<'a>
 {
     let n = op as usize;
     match n {
-        128..=131 => Cmd::Set(code(args, n - 127)),
+        128..=131 => Cmd::Set(i64::from(code(args, n - 127))),
         132 => Cmd::SetRule {
             a: signed(args, 0, 4),
             b: signed(args, 4, 4),
         },
-        133..=136 => Cmd::Put(code(args, n - 132)),
+        133..=136 => Cmd::Put(i64::from(code(args, n - 132))),
         137 => Cmd::PutRule {
             a: signed(args, 0, 4),
             b: signed(args, 4, 4),
@@ -199,7 +199,7 @@ fn read_high<'a>(op: u8, args: &'a [u8]) -> Cmd<'a>
 {
     let n = op as usize;
     match n {
-        235..=238 => Cmd::Fnt(code(args, n - 234)),
+        235..=238 => Cmd::Fnt(i64::from(code(args, n - 234))),
         239..=242 => Cmd::Xxx(&args[n - 238..]),
         243..=246 => Cmd::FntDef(read_def(n - 242, args)),
         247 => Cmd::Pre(read_pre(args)),

@@ -162,21 +162,31 @@ fn passes_over_plain_commands(rt: HostRuntime) -> Result<(), Fail> {
     Ok(())
 }
 
+/// The index of numbers, each with its place among them.
+fn index_of(rt: &HostRuntime, numbers: &[i32]) -> Result<NumberIndex, Fail> {
+    let mut found = Numbers::with_room(rt.alloc(), numbers.len())?;
+    for (place, k) in (0..).zip(numbers) {
+        found.push(*k, place)?;
+    }
+    Ok(NumberIndex::new(found))
+}
+
 #[test]
 fn numbers_of_fonts(rt: HostRuntime) -> Result<(), Fail> {
-    let index = NumberIndex::new(vec![in rt.alloc(); (5, 0), (-1, 1), (1 << 40, 2), (0, 3)]?);
+    let index = index_of(&rt, &[5, -1, i32::MAX, 0])?;
     assert_eq!(rt; index.twice(), None);
     let places = [
         (5, Some(0)),
         (-1, Some(1)),
-        (1 << 40, Some(2)),
+        (i64::from(i32::MAX), Some(2)),
         (0, Some(3)),
         (7, None),
+        (5 + (1 << 32), None),
     ];
     for (k, place) in places {
         assert_eq!(rt; index.place(k), place);
     }
-    let index = NumberIndex::new(vec![in rt.alloc(); (3, 0), (5, 1), (3, 2)]?);
+    let index = index_of(&rt, &[3, 5, 3])?;
     assert_eq!(rt; index.twice(), Some(3));
     Ok(())
 }

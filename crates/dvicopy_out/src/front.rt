@@ -40,7 +40,7 @@ fn define(script: &mut Script, key: &FontKey, number: u32)
 {
     script.clear();
     script.command(&Cmd::FntDef(Def {
-        k: i64::from(number),
+        k: number as i32,
         checksum: key.checksum,
         size: key.size as i32,
         design: key.design as i32,

@@ -224,3 +224,11 @@ inner_listed (Pre head) h = absurd h
 inner_listed (Post tail) h = absurd h
 inner_listed (PostPost back id) h = absurd h
 inner_listed _ h = tt
+
+-- ---- the quick way
+
+-- a command that was run, and whose line isn't written
+pub cut_listed : (s : Setting) (set : FontSet) (first now : Seen) (text : List ℕ) (d : Bool) (c : Placed) (st : Standing) (state : State) → Turned s c.command st set state → Cut first now (text ++ line_of d c state.pos) → Cut first now (text ++ (one_run d c st (turned s c.command st)).text)
+cut_listed s set first now text d c st state t h =
+    subst (λ (r : Run). Cut first now (text ++ r.text)) (sym (turned_by d c st t.behind (turned s c.command st) t.is))
+    (cut_is first now (text ++ line_of d c state.pos) (text ++ line_of d c t.behind.place) (ap (λ (p : Place). text ++ line_of d c p) (sym t.stands.place)) h)

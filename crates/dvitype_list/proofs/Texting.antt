@@ -1,10 +1,7 @@
 -- Texts of lists, item by item.
 use Rattle.std.proofs.Common.{◌≡◌, ◌≤◌, ◌<◌, ◌+◌, ◌++◌, ℕ, ℤ, List, [], ◌∷◌, length, take, drop, get_or, refl, sym, ap, ◌∙◌, arith, append_assoc}
-use Rattle.std.specs.Prelude.{map}
 use Rattle.std.specs.Fmt.{signed_decimal}
-use Rattle.std.proofs.lemmas.List.{append-nil, take-append-drop, take_more, map-append}
-use Rattle.dvi_ops.specs.View.{def_view}
-use Rattle.dvi_ops.specs.declared.cmd.Def.{Def}
+use Rattle.std.proofs.lemmas.List.{append-nil, take-append-drop, take_more}
 use Rattle.dvi_ops.specs.Command.{Definition}
 use Rattle.dvitype_list.specs.Texts.{escaped, escape_byte, font_line, font_lines, more_counts}
 
@@ -48,19 +45,17 @@ escaped_step bs i l = sym (escaped_more bs i (get_or bs i 0) (take (i + 1) bs) (
 pub escaped_rest : (bs : List ℕ) (i : ℕ) → i < length bs → (escaped (take i bs) ++ escape_byte (get_or bs i 0)) ++ escaped (drop (i + 1) bs) ≡ escaped bs
 escaped_rest bs i l = ap (λ (x : List ℕ). x ++ escaped (drop (i + 1) bs)) (escaped_step bs i l) ∙ escaped_front bs (i + 1)
 
-pub fonts_step : (xs : List Def) (i : ℕ) (d : Def) → i < length xs → font_lines (map def_view (take i xs)) ++ font_line (def_view (get_or xs i d)) ≡ font_lines (map def_view (take (i + 1) xs))
-fonts_step xs i d l =
-    ap (λ (x : List ℕ). font_lines (map def_view (take i xs)) ++ x) (sym (append-nil (font_line (def_view (get_or xs i d)))))
-    ∙ sym (fonts_join (map def_view (take i xs)) (def_view (get_or xs i d) ∷ []))
-    ∙ ap font_lines (sym (map-append def_view (take i xs) (get_or xs i d ∷ [])))
-    ∙ ap (λ (ys : List Def). font_lines (map def_view ys)) (sym (take_more xs i d l))
+pub fonts_step : (ds : List Definition) (i : ℕ) (d : Definition) → i < length ds → d ≡ get_or ds i d → font_lines (take i ds) ++ font_line d ≡ font_lines (take (i + 1) ds)
+fonts_step ds i d l is =
+    ap (λ (x : List ℕ). font_lines (take i ds) ++ x) (sym (append-nil (font_line d)))
+    ∙ sym (fonts_join (take i ds) (d ∷ []))
+    ∙ ap font_lines (ap (λ (x : Definition). take i ds ++ x ∷ []) is ∙ sym (take_more ds i d l))
 
-pub fonts_rest : (xs : List Def) (i : ℕ) (d : Def) → i < length xs → (font_lines (map def_view (take i xs)) ++ font_line (def_view (get_or xs i d))) ++ font_lines (map def_view (drop (i + 1) xs)) ≡ font_lines (map def_view xs)
-fonts_rest xs i d l =
-    ap (λ (x : List ℕ). x ++ font_lines (map def_view (drop (i + 1) xs))) (fonts_step xs i d l)
-    ∙ sym (fonts_join (map def_view (take (i + 1) xs)) (map def_view (drop (i + 1) xs)))
-    ∙ ap font_lines (sym (map-append def_view (take (i + 1) xs) (drop (i + 1) xs)))
-    ∙ ap (λ (ys : List Def). font_lines (map def_view ys)) (take-append-drop (i + 1) xs)
+pub fonts_rest : (ds : List Definition) (i : ℕ) (d : Definition) → i < length ds → d ≡ get_or ds i d → (font_lines (take i ds) ++ font_line d) ++ font_lines (drop (i + 1) ds) ≡ font_lines ds
+fonts_rest ds i d l is =
+    ap (λ (x : List ℕ). x ++ font_lines (drop (i + 1) ds)) (fonts_step ds i d l is)
+    ∙ sym (fonts_join (take (i + 1) ds) (drop (i + 1) ds))
+    ∙ ap font_lines (take-append-drop (i + 1) ds)
 
 pub more_whole : (text a b r w : List ℕ) → (a ++ b) ++ r ≡ w → ((text ++ a) ++ b) ++ r ≡ text ++ w
 more_whole text a b r w e = ap (λ (x : List ℕ). x ++ r) (append_assoc text a b) ∙ append_assoc text (a ++ b) r ∙ ap (λ (x : List ℕ). text ++ x) e

@@ -1,6 +1,6 @@
 -- One command against what stands before it and behind it.
 use Rattle.std.proofs.Common.{◌≡◌, ◌≤◌, ◌<◌, ◌+◌, ◌++◌, ◌^◌, ◌+ℤ◌, ◌⊎◌, inl, inr, ℕ, ℤ, pos, Bool, true, false, List, [], ◌∷◌, length, reverse, Option, Some, None, refl, sym, ap, subst, ◌∙◌, arith, nat_lt, nat_le, unsigned_abs, length-append}
-use Rattle.std.specs.Prelude.{if◌then◌else◌, ◌&&◌}
+use Rattle.std.specs.Prelude.{MatchBool, if◌then◌else◌, ◌&&◌, vec_len}
 use Rattle.std.proofs.lemmas.Bool.Decides.{nat_tests}
 use Rattle.std.proofs.lemmas.List.{reverse-append, length-reverse}
 use Rattle.indexmap.specs.IndexSet.{insert_key}
@@ -349,3 +349,27 @@ module _ (f : Fraction) (ds : List Definition) (set : FontSet) (c : Command) (st
 -- what stands behind a move of the place alone
 pub stands_placed : (set : FontSet) (old new : State) (st : Standing) → Stands set old st → new.font ≡ old.font → new.saved.items ≡ old.saved.items → Stands set new (record st { place = new.pos })
 stands_placed set old new st h font saved = stands_moved set set old new st (extends_self set) refl h font saved
+
+-- what a push or a pop leaves that wasn't done
+pub stands_kept : (set : FontSet) (old new : State) (st : Standing) → Stands set old st → new.pos ≡ old.pos → new.font ≡ old.font → new.saved.items ≡ old.saved.items → Stands set new st
+stands_kept set old new st h there font saved =
+    record {
+      place = h.place ∙ sym there;
+      font = subst (λ (f : Option Selected). IsSelected set f st.font) (sym font) h.font;
+      pushes = h.pushes ∙ ap reverse (sym saved);
+      known = h.known;
+    }
+
+pub push_tried : (set : FontSet) (s : Setting) (st : Standing) (old new : State) (b : Bool) → Stands set old st → new.pos ≡ old.pos → new.font ≡ old.font → MatchBool b (new.saved.items ≡ old.saved.items ++ old.pos ∷ []) (new.saved.items ≡ old.saved.items) → MatchBool b (vec_len old.saved < 1000) (vec_len old.saved ≡ 1000) → MatchBool b (Turned s Push st set new) (Stands set new st)
+push_tried set s st old new true h there font kept room =
+    record {
+      behind = _;
+      is = push_turned s st (omega (arith, as_many set old st h, old.saved.ok.0, room));
+      stands = stands_pushed set old new st h there font kept;
+    }
+push_tried set s st old new false h there font kept room = stands_kept set old new st h there font kept
+
+pub pop_tried : (set : FontSet) (s : Setting) (st : Standing) (old new : State) (b : Bool) → Stands set old st → new.font ≡ old.font → MatchBool b (old.saved.items ≡ new.saved.items ++ new.pos ∷ []) (old.saved.items ≡ []) → MatchBool b (Unit {0}) ((new.pos ≡ old.pos) × (new.saved.items ≡ [])) → MatchBool b (Turned s Pop st set new) (Stands set new st)
+pop_tried set s st old new true h font given stays =
+    record { behind = _; is = pop_turned s st _ _ (pushes_of set old new st h given); stands = stands_popped set old new st h font }
+pop_tried set s st old new false h font given stays = stands_kept set old new st h stays.0 font (stays.1 ∙ sym given)

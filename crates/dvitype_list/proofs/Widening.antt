@@ -277,3 +277,12 @@ none_selected set told_old told_new (Some k) z at h = absurd h
 pub selected_given : (set : FontSet) (f : Selected) (key : Option Key) → IsSelected set (Some f) key → f.id < length set.fonts
 selected_given set f None h = absurd h
 selected_given set f (Some k) h = id_below set.fonts k f.id h.0
+
+-- the width of the selected font, by its key
+pub known_told : (set : FontSet) (f : Selected) (key : Option Key) (z : ℤ) → IsSelected set (Some f) key → width_told set (Some f.id) z ≡ width_by set key z
+known_told set f None z h = absurd h
+known_told set f (Some k) z h = sym (width_placed set k f.id z h.0)
+
+pub nowhere_told : (set : FontSet) (key : Option Key) (z : ℤ) → IsSelected set None key → None ≡ width_by set key z
+nowhere_told set None z h = refl
+nowhere_told set (Some k) z h = absurd h

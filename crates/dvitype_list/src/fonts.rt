@@ -1,5 +1,5 @@
 //! Fonts as a page comes to them.
-ghost use Rattle.std.specs.Prelude.{◌≡◌, ◌<◌, ◌^◌, ℕ, ℤ, Some, None, Option, IfOk, IfErr, OnOk, length, unsigned_abs};
+ghost use Rattle.std.specs.Prelude.{◌≡◌, ◌<◌, ◌^◌, ℕ, ℤ, Some, None, Option, IfOk, IfErr, IfSome, OnOk, length, unsigned_abs};
 ghost use Rattle.dv_base.specs.Shelf.{Contents, Keeps};
 ghost use Rattle.dv_base.specs.declared.font_id.Spot.TheVariants as spot;
 ghost use Rattle.dvi_doc.specs.Grammar.{DefinesTwice, IsNamed, IsSized};
@@ -15,11 +15,12 @@ ghost use Rattle.dvitype_list.specs.Widths.{width_by, width_told};
 use crate::fault::ListFault;
 use crate::state::Selected;
 use dv_base::{FontId, Shelf, Spot};
-use dvi_doc::{Doc, FontDef, FontKey};
+use dvi_doc::{Doc, FontKey};
+use dvi_ops::Def;
 use font_set::{FontFault, Fonts, Kind, LoadFault};
 
 /// Makes the font of a definition known, as the selected one.
-fn learn(fonts: &mut Fonts, font: &FontDef<'_>) -> Result<Selected, ListFault>
+fn learn(fonts: &mut Fonts, font: &Def<'_>) -> Result<Selected, ListFault>
     requires named { IsNamed (def_view font.now) }
     requires sized { IsSized (def_view font.now) }
     ensures ok { IfOk result (Learned fonts.old fonts.new (defined_key (def_view font.now))) }
@@ -43,7 +44,7 @@ pub fn select(doc: &Doc<'_>, fonts: &mut Fonts, k: i64, at: u32) -> Result<Selec
     ensures gains { (held : Option Contents) → Gains held fonts.old fonts.new Any Any }
 {
     match doc.font(k) {
-        Some(font) => learn(fonts, font),
+        Some(font) => learn(fonts, &font.def()),
         None => Err(ListFault::Load(LoadFault::UndefinedFont(Spot::Page { at }))),
     }
 }
@@ -81,6 +82,35 @@ fn read_width<S: Shelf>(
 {
     load(fonts, shelf, id)?;
     wide(fonts, id, z)
+}
+
+/// The width of a character in a font, where the font is loaded and has the character.
+#[inline(always)]
+fn width_at(fonts: &Fonts, id: FontId, z: i64) -> Option<i64>
+    requires given { id < length fonts.now.fonts }
+    ensures value { result ≡ width_told fonts.now (Some id) z }
+    ensures bound { IfSome result (λ w. unsigned_abs w < 2 ^ 32) }
+{
+    match u8::try_from(z) {
+        Ok(code) => fonts.width(id, code),
+        Err(_) => None,
+    }
+}
+
+/// The width of a character in the selected font, where a font is selected, loaded and has the character.
+///
+/// It says no more than [`width`], but its answer is small: a [`ListFault`] carries a font's name in place, and room for one is cleared and
+/// moved where a function may answer one. So it is asked first, and `width` only where it has no answer.
+#[inline(always)]
+pub fn known_width(fonts: &Fonts, font: &Option<Selected>, z: i64) -> Option<i64>
+    requires given { (key : Option Key) × IsSelected fonts.now font.now key }
+    ensures value { (key : Option Key) → IsSelected fonts.now font.now key → result ≡ width_by fonts.now key z }
+    ensures bound { IfSome result (λ w. unsigned_abs w < 2 ^ 32) }
+{
+    match font {
+        Some(selected) => width_at(fonts, selected.id, z),
+        None => None,
+    }
 }
 
 /// The width of a character in the selected font.

@@ -18,6 +18,7 @@ mod gathered;
 mod lines;
 mod listing;
 mod moves;
+mod quick;
 mod state;
 mod turn;
 

@@ -1,5 +1,5 @@
 //! The listing as a whole.
-ghost use Rattle.std.specs.Prelude.{◌≡◌, ◌<◌, ◌≤◌, ◌+◌, ◌^◌, ◌++◌, [], ℕ, ℤ, List, length, map, nat_eq, slice_get, IfErr, OnErr, OnOk};
+ghost use Rattle.std.specs.Prelude.{◌≡◌, ◌<◌, ◌≤◌, ◌+◌, ◌^◌, ◌++◌, [], ℕ, ℤ, List, length, map, nat_eq, slice_get, IfErr, IfOk, MatchBool, OnErr, OnOk};
 ghost use Rattle.std.specs.List.{All};
 ghost use Rattle.dv_base.specs.Shelf.{Keeps, Told};
 ghost use Rattle.dv_base.specs.Tray.{KeepsNames, Seen};
@@ -23,11 +23,12 @@ ghost use Rattle.dvitype_list.specs.Widths.{setting};
 use crate::fault::ListFault;
 use crate::gathered::Gatherer;
 use crate::lines;
+use crate::quick::quick_turn;
 use crate::state::State;
 use crate::turn::turn;
 use dv_base::{Conv, Line, Shelf, Tray, WriteFault};
 use dv_words::ListJob;
-use dvi_doc::{Doc, Page, one_document};
+use dvi_doc::{Doc, FontDef, Page, one_document};
 use dvi_ops::{Cmd, Def, command_at};
 use font_set::Fonts;
 use positions::Pos;
@@ -78,10 +79,12 @@ fn plain_line<T: Tray>(
     out.text(tray, line.as_slice())
 }
 
-/// Writes the line of a command.
+/// Writes the line of a command. The value `line` in which it is put together is the caller's, as a new one for each command is 1,024 bytes
+/// to clear; what it held is dropped.
 fn command_line<T: Tray>(
     out: &mut Gatherer,
     tray: &mut T,
+    line: &mut Line,
     cmd: &Cmd<'_>,
     at: u32,
     behind: &Pos,
@@ -92,13 +95,13 @@ fn command_line<T: Tray>(
     ensures cut { (first : Seen) (text : List ℕ) → Gathered first (T.seen tray.old) out.old.kept.items text → OnErr result (Cut first (T.seen tray.new) (text ++ command_line at (view cmd.now) behind.now)) }
     ensures keeps { KeepsNames (T.seen tray.old) (T.seen tray.new) }
 {
-    let mut line = Line::new();
+    line.clear();
     line.number(at);
     line.text(b": ");
-    lines::name(&mut line, cmd);
+    lines::name(line, cmd);
     match cmd {
-        Cmd::Xxx(text) => special_line(out, tray, &mut line, text, behind),
-        _ => plain_line(out, tray, &mut line, behind),
+        Cmd::Xxx(text) => special_line(out, tray, line, text, behind),
+        _ => plain_line(out, tray, line, behind),
     }
 }
 
@@ -107,6 +110,7 @@ fn detail_line<T: Tray>(
     detail: bool,
     out: &mut Gatherer,
     tray: &mut T,
+    line: &mut Line,
     cmd: &Cmd<'_>,
     at: u32,
     behind: &Pos,
@@ -118,9 +122,37 @@ fn detail_line<T: Tray>(
     ensures keeps { KeepsNames (T.seen tray.old) (T.seen tray.new) }
 {
     if detail {
-        command_line(out, tray, cmd, at, behind)
+        command_line(out, tray, line, cmd, at, behind)
     } else {
         Ok(())
+    }
+}
+
+/// Runs a command that has a quick way, and writes its line; false where it wasn't run, and then nothing has changed.
+fn quick_command<T: Tray>(
+    scene: &Scene<'_>,
+    fonts: &Fonts,
+    state: &mut State,
+    out: &mut Gatherer,
+    tray: &mut T,
+    line: &mut Line,
+    cmd: &Cmd<'_>,
+    at: u32,
+) -> Result<bool, WriteFault>
+    requires begun { 0 < (T.seen tray.old).begun }
+    requires listed { IsInPage (view cmd.now) }
+    requires stands { (st : Standing) × Stands fonts.now state.old st }
+    ensures ok { (begun : Seen) (text : List ℕ) (st : Standing) → Gathered begun (T.seen tray.old) out.old.kept.items text → Stands fonts.now state.old st → IfOk result (λ run. MatchBool run (Went (setting scene.now.conv scene.now.doc.now.fonts fonts.now) scene.now.detail (record { place = at; command = view cmd.now }) st fonts.now state.new begun (T.seen tray.new) out.new.kept.items text) (Stands fonts.now state.new st × Gathered begun (T.seen tray.new) out.new.kept.items text)) }
+    ensures cut { (begun : Seen) (text : List ℕ) (st : Standing) → Gathered begun (T.seen tray.old) out.old.kept.items text → Stands fonts.now state.old st → OnErr result (Cut begun (T.seen tray.new) (text ++ (one_run scene.now.detail (record { place = at; command = view cmd.now }) st (turned (setting scene.now.conv scene.now.doc.now.fonts fonts.now) (view cmd.now) st)).text)) }
+    ensures keeps { KeepsNames (T.seen tray.old) (T.seen tray.new) }
+{
+    if !quick_turn(&scene.conv, fonts, state, cmd) {
+        return Ok(false);
+    }
+    let behind = &state.pos;
+    match detail_line(scene.detail, out, tray, line, cmd, at, behind) {
+        Ok(()) => Ok(true),
+        Err(WriteFault) => Err(WriteFault),
     }
 }
 
@@ -132,6 +164,7 @@ fn command<S: Shelf, T: Tray>(
     state: &mut State,
     out: &mut Gatherer,
     tray: &mut T,
+    line: &mut Line,
     cmd: &Cmd<'_>,
     at: u32,
 ) -> Result<(), ListFault>
@@ -148,7 +181,7 @@ fn command<S: Shelf, T: Tray>(
     if let Err(fault) = turn(scene.doc, &scene.conv, fonts, shelf, state, cmd, at) {
         return Err(fault);
     }
-    match detail_line(scene.detail, out, tray, cmd, at, &state.pos) {
+    match detail_line(scene.detail, out, tray, line, cmd, at, &state.pos) {
         Ok(()) => Ok(()),
         Err(WriteFault) => Err(ListFault::WriteFault),
     }
@@ -162,6 +195,7 @@ fn commands<S: Shelf, T: Tray>(
     state: &mut State,
     out: &mut Gatherer,
     tray: &mut T,
+    line: &mut Line,
     body: &[u8],
     first: u32,
 ) -> Result<(), ListFault>
@@ -181,7 +215,13 @@ fn commands<S: Shelf, T: Tray>(
         let (cmd, end) = command_at(body, at);
         let place = first + at as u32;
         at = end;
-        if let Err(fault) = command(scene, fonts, shelf, state, out, tray, &cmd, place) {
+        // The quick way first: the other one clears and moves room for faults.
+        match quick_command(scene, fonts, state, out, tray, line, &cmd, place) {
+            Ok(true) => continue,
+            Ok(false) => {}
+            Err(WriteFault) => return Err(ListFault::WriteFault),
+        }
+        if let Err(fault) = command(scene, fonts, shelf, state, out, tray, line, &cmd, place) {
             return Err(fault);
         }
     }
@@ -239,10 +279,23 @@ fn page<S: Shelf, T: Tray>(
         return Err(ListFault::WriteFault);
     }
     state.begin();
-    if let Err(fault) = commands(scene, fonts, shelf, state, out, tray, body, page.first) {
+    let mut line = Line::new();
+    if let Err(fault) = commands(
+        scene, fonts, shelf, state, out, tray, &mut line, body, page.first,
+    ) {
         return Err(fault);
     }
-    command(scene, fonts, shelf, state, out, tray, &Cmd::Eop, page.eop)
+    command(
+        scene,
+        fonts,
+        shelf,
+        state,
+        out,
+        tray,
+        &mut line,
+        &Cmd::Eop,
+        page.eop,
+    )
 }
 
 /// Lists pages one after another.
@@ -295,15 +348,15 @@ fn font_line<T: Tray>(out: &mut Gatherer, tray: &mut T, font: &Def<'_>) -> Resul
 fn font_lines<T: Tray>(
     out: &mut Gatherer,
     tray: &mut T,
-    fonts: &[Def<'_>],
+    fonts: &[FontDef<'_>],
 ) -> Result<(), WriteFault>
     requires begun { 0 < (T.seen tray.old).begun }
-    ensures ok { (first : Seen) (text : List ℕ) → Gathered first (T.seen tray.old) out.old.kept.items text → OnOk result (Gathered first (T.seen tray.new) out.new.kept.items (text ++ font_lines (map def_view fonts.now))) }
-    ensures cut { (first : Seen) (text : List ℕ) → Gathered first (T.seen tray.old) out.old.kept.items text → OnErr result (Cut first (T.seen tray.new) (text ++ font_lines (map def_view fonts.now))) }
+    ensures ok { (first : Seen) (text : List ℕ) → Gathered first (T.seen tray.old) out.old.kept.items text → OnOk result (Gathered first (T.seen tray.new) out.new.kept.items (text ++ font_lines fonts.now)) }
+    ensures cut { (first : Seen) (text : List ℕ) → Gathered first (T.seen tray.old) out.old.kept.items text → OnErr result (Cut first (T.seen tray.new) (text ++ font_lines fonts.now)) }
     ensures keeps { KeepsNames (T.seen tray.old) (T.seen tray.new) }
 {
     for font in fonts {
-        font_line(out, tray, font)?;
+        font_line(out, tray, &font.def())?;
     }
     Ok(())
 }

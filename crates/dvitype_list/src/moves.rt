@@ -38,6 +38,7 @@ pub fn past_char(conv: &Conv, pos: &mut Pos, width: i64) -> Result<(), Passed>
     requires { unsigned_abs width < 2 ^ 32 }
     ensures ok { OnOk result (past_char conv.now width pos.old ≡ Some pos.new) }
     ensures large { OnErr result (IsLarge (pos.old.h +ℤ width)) }
+    ensures stays { OnErr result (pos.new ≡ pos.old) }
 {
     let pixels = conv.round(width);
     pos.advance(conv, DRIFT, width, pixels)

@@ -84,6 +84,7 @@ impl State {
     /// Gives back the place that was kept last; false where none is kept.
     pub fn pop(&mut self) -> bool
         ensures given { MatchBool result (self.old.saved.items ≡ self.new.saved.items ++ self.new.pos ∷ []) (self.old.saved.items ≡ []) }
+        ensures stays { MatchBool result (Unit {0}) ((self.new.pos ≡ self.old.pos) × (self.new.saved.items ≡ [])) }
         ensures font { self.new.font ≡ self.old.font }
     {
         match self.saved.pop() {

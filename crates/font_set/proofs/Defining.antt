@@ -1,20 +1,18 @@
 -- The keys of a document's fonts by their numbers.
-use Rattle.std.proofs.Common.{◌≡◌, ◌≤◌, ◌<◌, ◌+◌, ◌^◌, ◌⊎◌, inl, inr, ℕ, zero, suc, ℤ, pos, Bool, true, false, List, [], ◌∷◌, length, slice_index_or, Option, Some, None, refl, sym, ap, subst, ◌∙◌, arith, true≢false}
-use Rattle.std.specs.Prelude.{◌≤ℤ◌, ◌<ℤ◌, map, unsigned_abs}
+use Rattle.std.proofs.Common.{◌≡◌, ◌<◌, inl, inr, ℕ, zero, suc, ℤ, pos, Bool, true, false, List, [], ◌∷◌, length, slice_index_or, Option, Some, None, refl, sym, ap, subst, ◌∙◌, arith}
+use Rattle.std.specs.Prelude.{unsigned_abs, MatchOption}
 use Rattle.std.specs.Ordering.{int_eq}
-use Rattle.std.specs.List.{All, Contains}
+use Rattle.std.specs.List.{Contains}
 use Rattle.std.proofs.lemmas.Bool.Decides.{Decides-int_eq}
 use Rattle.std.proofs.lemmas.Int.{ints}
 use Rattle.dvi_ops.specs.Command.{Definition}
 use Rattle.dvi_doc.specs.Grammar.{AreFonts, Defines, DefinesTwice, IsNamed, IsSized, IsSize}
-use Rattle.dvi_ops.specs.View.{def_view}
-use Rattle.dvi_ops.specs.declared.cmd.Def.{Def}
 use Rattle.dvi_doc.specs.View.{IsKeyOf}
 use Rattle.dvi_doc.specs.declared.font.FontKey.{FontKey}
 use Rattle.dv_base.specs.FileName.{text_of}
 use Rattle.dv_base.specs.FontName.{IsFontName}
-use Rattle.font_set.specs.Key.{Key, IsKey, IsUnits}
-use Rattle.font_set.specs.Programs.{Named, HasNumber, key_in, named_by, page_fonts}
+use Rattle.font_set.specs.Key.{IsKey, IsUnits}
+use Rattle.font_set.specs.Programs.{HasNumber, key_in, key_by, named_by, page_fonts}
 use Rattle.font_set.specs.Search.{page_in}
 use Rattle.font_set.specs.Locals.{KeyAnswer}
 use Rattle.font_set.specs.Views.{key_of}
@@ -48,19 +46,21 @@ none_numbered (x ∷ xs) k other (inr h) = none_numbered xs k (λ d. other (inr 
 units_of : (n : ℕ) → IsSize (pos n) → IsUnits n
 units_of n h = (omega (arith, ints, h.0), omega (arith, ints, h.1))
 
--- the key of a definition of the document is what its number names
-key_is : (ds : List Definition) (f : Def) (key : FontKey) (k : ℤ) → AreFonts ds → Contains ds (def_view f) → f.k ≡ k → IsKeyOf (def_view f) key
-    → (key_in (page_fonts ds) k ≡ Some (key_of key)) × IsKey (key_of key)
-key_is ds f key k a c e h =
-    let d = def_view f in
-    let named : IsNamed d = subst IsNamed c.2 (a.1 c.0 d c.1) in
-    let sized : IsSized d = subst IsSized c.2 (a.2 c.0 d c.1) in
-    let name : f.name.now ≡ text_of key.name = sym h.0 in
-    let checksum : f.checksum ≡ key.checksum = sym h.1 in
-    let size : unsigned_abs f.size ≡ key.size = sym (ap unsigned_abs h.2) in
-    let design : unsigned_abs f.design ≡ key.design = sym (ap unsigned_abs h.3) in
-    let same : (named_by d).key ≡ Some (key_of key) = λ i. Some (record { name = name i; checksum = checksum i; size = size i; design = design i }) in (
-      key_found ds k c.0 d a.0 c.1 c.2 e ∙ same,
+-- a definition of the document is what its number names
+pub page_definition : (ds : List Definition) (first : ℕ) (bytes : List ℕ) (d : Definition) (k : ℤ) → AreFonts ds → Contains ds d → d.k ≡ k
+    → key_in (page_in ds first bytes).scope.fonts k ≡ Some (key_by d)
+unfolding page_in
+page_definition ds first bytes d k a c e = key_found ds k c.0 d a.0 c.1 c.2 e
+
+-- the key that is made of a definition
+pub key_made : (d : Definition) (key : FontKey) → IsNamed d → IsSized d → IsKeyOf d key → (key_by d ≡ key_of key) × IsKey (key_of key)
+key_made d key named sized h =
+    let name : d.name ≡ text_of key.name = sym h.0 in
+    let checksum : d.checksum ≡ key.checksum = sym h.1 in
+    let size : unsigned_abs d.size ≡ key.size = sym (ap unsigned_abs h.2) in
+    let design : unsigned_abs d.design ≡ key.design = sym (ap unsigned_abs h.3) in
+    let same : key_by d ≡ key_of key = λ i. record { name = name i; checksum = checksum i; size = size i; design = design i } in (
+      same,
       record {
         name = subst IsFontName name named;
         size = units_of key.size (subst IsSize (sym h.2) sized.0);
@@ -68,11 +68,11 @@ key_is ds f key k a c e h =
       },
     )
 
-pub page_key : (ds : List Definition) (first : ℕ) (bytes : List ℕ) (f : Def) (key : FontKey) (k : ℤ) → AreFonts ds → Contains ds (def_view f) → f.k ≡ k
-    → IsKeyOf (def_view f) key → KeyAnswer (page_in ds first bytes).scope.fonts k (Some key)
-unfolding page_in
-page_key ds first bytes f key k a c e h = key_is ds f key k a c e h
-
 pub page_no_key : (ds : List Definition) (first : ℕ) (bytes : List ℕ) (k : ℤ) → (Defines ds k → ⊥) → KeyAnswer (page_in ds first bytes).scope.fonts k None
 unfolding page_in
 page_no_key ds first bytes k other h = none_numbered ds k other h
+
+-- what is said of an answer, in both cases
+pub in_both : {X : Type 0} (o : Option X) {P R : Type 0} {Q S : X → Type 0} → (P → R) → ((x : X) → Q x → S x) → MatchOption o P Q → MatchOption o R S
+in_both None f g h = f h
+in_both (Some x) f g h = g x h

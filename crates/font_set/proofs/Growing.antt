@@ -1,5 +1,5 @@
 -- What stays when a set grows.
-use Rattle.std.proofs.Common.{◌≡◌, ◌≤◌, ◌<◌, ◌+◌, ◌⊎◌, inl, inr, ℕ, zero, suc, arith, List, [], ◌∷◌, ◌++◌, Bool, true, false, length, drop, Option, Some, None, slice_get, slice_index_or, slice_set, replicate, ◌-◌, true≢false, refl, sym, ap, subst, ◌∙◌, nat_eq}
+use Rattle.std.proofs.Common.{◌≡◌, ◌≤◌, ◌<◌, ◌+◌, ◌⊎◌, inl, inr, ℕ, zero, suc, arith, List, [], ◌∷◌, ◌++◌, Bool, true, false, length, drop, Option, Some, None, slice_get, slice_index_or, slice_set, ◌-◌, refl, sym, ap, subst, ◌∙◌, nat_eq}
 use Rattle.dv_base.specs.declared.units.Units.{Units}
 use Rattle.dvi_ops.specs.Placed.{Placed, Lexes}
 use Rattle.font_set.specs.Key.{Key, same_key}
@@ -123,14 +123,6 @@ marked_split (v ∷ vs) zero zero h = inr refl
 marked_split (v ∷ vs) zero (suc r) h = inl h
 marked_split (v ∷ vs) (suc q) zero h = inl h
 marked_split (v ∷ vs) (suc q) (suc r) h = elim (marked_split vs q r h) [ inl k ↦ inl k | inr e ↦ inr (ap suc e) ]
-
-none_marked : (n p : ℕ) → slice_index_or (replicate n false) p false ≡ true → ⊥
-none_marked zero p h = true≢false (sym h)
-none_marked (suc n) zero h = true≢false (sym h)
-none_marked (suc n) (suc p) h = none_marked n p h
-
-pub none_in : (vs : List Bool) (n : ℕ) → vs ≡ replicate n false → (m : ℕ) → slice_index_or vs m false ≡ true → ⊥
-none_in vs n e m h = none_marked n m (subst (λ (xs : List Bool). slice_index_or xs m false ≡ true) e h)
 
 pub mark_read : (vs : List Bool) (p : ℕ) (r : Bool) → p < length vs → r ≡ slice_index_or vs p r → slice_index_or vs p false ≡ r
 mark_read [] p r h e = absurd (omega arith)

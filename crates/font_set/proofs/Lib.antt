@@ -1,6 +1,7 @@
 pub mod Keys
 pub mod Stores
 pub mod Ids
+pub mod Hints
 pub mod Learning
 pub mod Loading
 pub mod Shelves
@@ -10,6 +11,7 @@ pub mod Looks
 pub mod Points
 pub mod Order
 pub mod Growing
+pub mod Padding
 pub mod Finding
 pub mod Ending
 pub mod Later

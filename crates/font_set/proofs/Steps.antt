@@ -1,6 +1,6 @@
 -- Each command of a frame is a step of the search.
 use Rattle.std.proofs.Common.{◌≡◌, ◌≤◌, ◌<◌, ◌+◌, ◌-◌, ◌*◌, ◌⊎◌, inl, inr, ℕ, zero, suc, ℤ, pos, arith, List, [], ◌∷◌, ◌++◌, Bool, true, false, length, drop, Option, Some, None, slice_get, slice_index_or, slice_set, Result, Ok, Err, refl, sym, ap, subst, ◌∙◌, true≢false}
-use Rattle.std.specs.Prelude.{OnOk, IfErr}
+use Rattle.std.specs.Prelude.{OnOk, IfOk, IfErr}
 use Rattle.dvi_ops.specs.Placed.{Placed, Lexes}
 use Rattle.dvi_doc.specs.declared.font.FontKey.{FontKey}
 use Rattle.font_set.specs.Key.{Key, same_key}
@@ -35,6 +35,10 @@ use Rattle.font_set.proofs.Gaining.{gains_wider, gains_on}
 use Rattle.font_set.proofs.Telling.{meet_told}
 
 -- ---- results
+
+pub if_ok : {T E : Type 0} (r : Result T E) {P Q : T → Type 0} → ((x : T) → P x → Q x) → IfOk r P → IfOk r Q
+if_ok (Ok x) f h = f x h
+if_ok (Err e) f h = tt
 
 pub on_ok : {T E : Type 0} (r : Result T E) {A B : Type 0} → (A → B) → OnOk r A → OnOk r B
 on_ok (Ok x) f h = f h

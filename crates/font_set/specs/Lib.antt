@@ -21,6 +21,7 @@ pub mod Gains
 pub mod Search
 pub mod Laws
 pub mod Progress
+pub mod Marks
 pub mod Found
 pub mod Asking
 pub mod Skim

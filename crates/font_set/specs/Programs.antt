@@ -43,8 +43,12 @@ head_of (f ∷ fs) = Some f
 
 -- ---- pages
 
+-- the key of the font that a definition names
+abbrev pub key_by : Definition → Key
+key_by d = record { name = d.name; checksum = d.checksum; size = unsigned_abs d.size; design = unsigned_abs d.design }
+
 abbrev pub named_by : Definition → Named
-named_by d = record { number = d.k; key = Some (record { name = d.name; checksum = d.checksum; size = unsigned_abs d.size; design = unsigned_abs d.design }) }
+named_by d = record { number = d.k; key = Some (key_by d) }
 
 -- the fonts of a document
 unfoldable pub page_fonts : List Definition → List Named

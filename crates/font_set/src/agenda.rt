@@ -1,8 +1,14 @@
 //! What a search for the fonts of a page has still to run, and what it has met.
-ghost use Rattle.std.specs.Prelude.{◌≡◌, ◌<◌, ◌+◌, ◌*◌, ℕ, false, true, List, [], ◌∷◌, length, slice_index_or, slice_set, OnOk, IfOk, MatchOption};
+ghost use Rattle.std.specs.Prelude.{◌≡◌, ◌<◌, ◌≤◌, ◌+◌, ◌*◌, ℕ, false, true, List, [], ◌∷◌, length, slice_index_or, slice_set, OnOk, OnErr, IfOk, MatchOption};
 ghost use Rattle.font_set.specs.Found.{Todo, IsMarked};
+ghost use Rattle.font_set.specs.Marks.{padded};
+ghost use Rattle.font_set.specs.Fonts.{place_of};
+ghost use Rattle.font_set.specs.Programs.{key_by};
+ghost use Rattle.dvi_doc.specs.Grammar.{IsNamed, IsSized};
 
+use crate::fonts::Fonts;
 use dv_base::FontId;
+use dvi_doc::FontDef;
 use std::alloc::{AllocError, Global};
 use std::marker::Model;
 
@@ -22,34 +28,43 @@ pub struct Place {
     pub font: Option<u32>,
 }
 
-/// The characters that a search may meet: 256 of each of 1,000 fonts.
-const CHARACTERS: usize = 256_000;
+/// The codes of a font, each of which has a mark.
+const CODES: usize = 256;
 
-/// Marks of characters, none of which was met.
-fn no_marks(alloc: Global, many: usize) -> Result<Vec<bool>, AllocError>
-    ensures many { IfOk result (λ v. length v.items ≡ many) }
-    ensures none { IfOk result (λ v. (m : ℕ) → IsMarked v.items m → ⊥) }
-{
-    let marks = vec![in alloc; false; many]?;
-    Ok(marks)
-}
-
-/// The places that are open, and a mark for each character that was met. It takes memory for the places alone once it is made.
+/// The places that are open, and a mark for each character that was met: there are 256 for each font up to the last one of which
+/// a character was met. Those of further fonts, up to the 1,000th, are false.
 #[derive(Drop)]
 pub struct Agenda {
     places: Vec<Place>,
     met: Vec<bool>,
+    /// By the number of a font, modulo 16, the id that was found last.
+    hints: [Option<FontId>; 16],
+}
+
+/// Makes the marks that are missing, up to this many.
+fn widen(met: &mut Vec<bool>, many: usize) -> Result<(), AllocError>
+    requires within { many ≤ 256000 }
+    requires few { length met.old.items ≤ 256000 }
+    ensures same { padded met.new.items ≡ padded met.old.items }
+    ensures few { length met.new.items ≤ 256000 }
+    ensures enough { OnOk result (many ≤ length met.new.items) }
+{
+    if met.len() < many {
+        met.resize(many, false)?;
+    }
+    Ok(())
 }
 
 impl Model for Agenda {
     ghost use Rattle.font_set.specs.Found.{Todo};
-    ghost use Rattle.std.specs.Prelude.{◌≡◌, length, reverse};
+    ghost use Rattle.font_set.specs.Marks.{padded};
+    ghost use Rattle.std.specs.Prelude.{◌≤◌, length, reverse};
 
     ghost Value = { Todo };
 
-    ghost view = { λ a. record { places = reverse a.places.items; met = a.met.items } };
+    ghost view = { λ a. record { places = reverse a.places.items; met = padded a.met.items } };
 
-    ghost invariant = { λ a. length a.met.items ≡ 256000 };
+    ghost invariant = { λ a. length a.met.items ≤ 256000 };
 }
 
 impl Agenda {
@@ -58,10 +73,14 @@ impl Agenda {
         ensures places { IfOk result (λ a. a.places ≡ place.now ∷ []) }
         ensures none { IfOk result (λ a. (m : ℕ) → IsMarked a.met m → ⊥) }
     {
-        let met = no_marks(alloc, CHARACTERS)?;
+        let met = Vec::new(alloc);
         let mut places = Vec::new(alloc);
         places.push(*place)?;
-        Ok(Agenda { places, met })
+        Ok(Agenda {
+            places,
+            met,
+            hints: [None; 16],
+        })
     }
 
     /// Takes the last open place; `None` exactly where none is open.
@@ -86,15 +105,31 @@ impl Agenda {
     pub fn has_met(&self, font: FontId, code: u8) -> bool
         ensures { result ≡ slice_index_or self.now.met (font * 256 + code) false }
     {
-        self.met[font.number() as usize * 256 + code as usize]
+        let at = font.number() as usize * CODES + code as usize;
+        at < self.met.len() && self.met[at]
     }
 
     /// Notes that a character is met.
-    pub fn meet(&mut self, font: FontId, code: u8)
+    pub fn meet(&mut self, font: FontId, code: u8) -> Result<(), AllocError>
         ensures places { self.new.places ≡ self.old.places }
-        ensures met { self.new.met ≡ slice_set self.old.met (font * 256 + code) true }
+        ensures met { OnOk result (self.new.met ≡ slice_set self.old.met (font * 256 + code) true) }
         ensures within { font * 256 + code < length self.old.met }
+        ensures same { OnErr result (self.new ≡ self.old) }
     {
-        self.met[font.number() as usize * 256 + code as usize] = true;
+        let first = font.number() as usize * CODES;
+        widen(&mut self.met, first + CODES)?;
+        self.met[first + code as usize] = true;
+        Ok(())
+    }
+
+    /// The id of the font that the document defines by the number k; `None` exactly where that font isn't known.
+    pub fn id_of(&mut self, fonts: &Fonts, k: i64, font: &FontDef<'_>) -> Option<FontId>
+        requires named { IsNamed font.now }
+        requires sized { IsSized font.now }
+        ensures value { result ≡ place_of fonts.now.fonts (key_by font.now) }
+        ensures same { self.new ≡ self.old }
+    {
+        let hint = &mut self.hints[k.rem_euclid(16) as usize];
+        fonts.id_of(font, hint)
     }
 }

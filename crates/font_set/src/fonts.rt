@@ -1,8 +1,11 @@
 //! The fonts of a run, by key and by number.
-ghost use Rattle.std.specs.Prelude.{◌≡◌, ◌<◌, ◌≤◌, ℕ, List, [], length, slice_get, Some, IfSome, IfOk, IfErr, OnOk, OnErr};
+ghost use Rattle.std.specs.Prelude.{◌≡◌, ◌<◌, ◌≤◌, ◌↔◌, ℕ, List, [], length, slice_get, Some, IfSome, IfOk, IfErr, OnOk, OnErr, IsTrue};
 ghost use Rattle.dv_base.specs.UnitPixels.{pixels_of_one};
+ghost use Rattle.dvi_ops.specs.View.{def_view};
+ghost use Rattle.dvi_doc.specs.Grammar.{IsNamed, IsSized};
 ghost use Rattle.font_set.specs.Key.{IsKey};
 ghost use Rattle.font_set.specs.Fonts.{FontSet, place_of, learn, state_at, key_at};
+ghost use Rattle.font_set.specs.Programs.{key_by};
 ghost use Rattle.font_set.specs.FontFaults.{NotKnown};
 ghost use Rattle.font_set.specs.Growth.{Extends, Learnt, keys_now};
 ghost use Rattle.font_set.specs.Stored.{AreUnits, IsSound, IsStored, entry_of, state_of};
@@ -12,7 +15,8 @@ use crate::fault::FontFault;
 use crate::font::Font;
 use crate::want::{Kind, Want};
 use dv_base::{Conv, FontId, Units};
-use dvi_doc::FontKey;
+use dvi_doc::{FontDef, FontKey};
+use dvi_ops::Def;
 use indexmap::IndexMap;
 use std::alloc::Global;
 use std::marker::Model;
@@ -53,6 +57,16 @@ fn id_at(place: usize) -> FontId
         Some(id) => id,
         None => unreachable!(),
     }
+}
+
+/// Whether a key is that of a definition: it has the name and the three numbers.
+fn is_key_by(key: &FontKey, font: &Def<'_>) -> bool
+    ensures { IsTrue result ↔ (key_of key.now ≡ key_by (def_view font.now)) }
+{
+    key.checksum == font.checksum
+        && key.size == font.size.unsigned_abs()
+        && key.design == font.design.unsigned_abs()
+        && key.name.as_str().as_bytes() == font.name
 }
 
 impl Fonts {
@@ -102,6 +116,39 @@ impl Fonts {
     {
         let place = self.table.get_index_of(key)?;
         Some(id_at(place))
+    }
+
+    /// The id of the font that a definition of a document names; `None` exactly where that font isn't known.
+    ///
+    /// The hint may be any id or none, and becomes the answer. Where it is the answer already, the key that the set has is compared with
+    /// the definition, and no key is made. So a caller that selects a font again and again keeps a hint for it.
+    pub fn id_of(&self, font: &FontDef<'_>, hint: &mut Option<FontId>) -> Option<FontId>
+        requires named { IsNamed font.now }
+        requires sized { IsSized font.now }
+        ensures value { result ≡ place_of self.now.fonts (key_by font.now) }
+        ensures given { IfSome result (λ id. id < length self.now.fonts) }
+        ensures hint { hint.new ≡ result }
+    {
+        let def = font.def();
+        if let Some(id) = *hint {
+            if self.is_font(id, &def) {
+                return Some(id);
+            }
+        }
+        *hint = self.id(&FontKey::of(&def));
+        *hint
+    }
+
+    /// Whether an id is that of the font that a definition names.
+    fn is_font(&self, id: FontId, font: &Def<'_>) -> bool
+        ensures { IsTrue result ↔ (place_of self.now.fonts (key_by (def_view font.now)) ≡ Some id) }
+    {
+        // The keys of a table differ, so the font is found at no other place.
+        if self.table.len() <= id.number() as usize {
+            return false;
+        }
+        let (key, _) = self.entry(id);
+        is_key_by(key, font)
     }
 
     /// How many fonts are known.

@@ -146,7 +146,7 @@ impl Fonts {
         ensures gains { (held : Option Contents) → Gains held self.old self.new (λ i. ⊥) (BeginsIn self.new id (pos code)) }
         ensures fault { IfErr result (OpenFault self.new id (pos code)) }
     {
-        agenda.meet(id, code);
+        agenda.meet(id, code)?;
         let begin = self.begin(id, code)?;
         let first = self.know_first(begin.first)?;
         let end = begin.end;
@@ -275,7 +275,7 @@ impl Fonts {
         }
     }
 
-    /// Goes on from the last open place: passes over what asks nothing of fonts, and runs the command behind it.
+    /// Goes on from the last open place: passes over what asks nothing of fonts, and runs the command behind it, whatever it asks.
     fn step<S: Shelf>(
         &mut self,
         shelf: &mut S,
@@ -296,10 +296,6 @@ impl Fonts {
         if ahead.at >= ahead.end {
             return Ok(());
         }
-        let ran = self.run_quick(sheet, &ahead, agenda)?;
-        if ran {
-            return Ok(());
-        }
         self.run_command(shelf, sheet, &ahead, agenda)
     }
 
@@ -317,6 +313,11 @@ impl Fonts {
         let mut agenda = Agenda::new(alloc, &first_place(sheet))?;
         while let Some(place) = agenda.next() {
             if place.at >= place.end {
+                continue;
+            }
+            // Almost always this is all: no fault's value, which is large, is made for it.
+            let ran = self.advance(sheet, &place, &mut agenda)?;
+            if ran {
                 continue;
             }
             self.step(shelf, sheet, &place, &mut agenda)?;

@@ -1,7 +1,7 @@
 //! Pages whose fonts are loaded, from files that were put together here.
 
 use crate::{FontFault, Fonts, LoadFault, Want};
-use dv_base::{Conv, MemShelf, Units};
+use dv_base::{Conv, FontId, MemShelf, Units};
 use dvi_doc::Doc;
 use std::alloc::{AllocError, Global};
 use std::test::Fail;
@@ -83,7 +83,16 @@ fn word(fault: &LoadFault) -> &'static str {
     }
 }
 
-/// What loading the first page answers, and how many fonts are known then.
+/// Whether the font 0 of a document is found to have this id, with a hint that is wrong and again with the one that is left.
+fn is_found(fonts: &Fonts, doc: &Doc<'_>, id: Option<FontId>) -> bool {
+    let Some(font) = doc.font(0) else {
+        return false;
+    };
+    let mut hint = FontId::new(7);
+    fonts.id_of(font, &mut hint) == id && hint == id && fonts.id_of(font, &mut hint) == id
+}
+
+/// What loading the first page answers, and how many fonts are known then, the document's first.
 fn loading(alloc: Global, shelf: &mut MemShelf, bytes: &[u8]) -> Option<(&'static str, u32)> {
     if bytes.len() > 100_000 {
         return None;
@@ -106,7 +115,12 @@ fn loading(alloc: Global, shelf: &mut MemShelf, bytes: &[u8]) -> Option<(&'stati
         Ok(()) => "loaded",
         Err(fault) => word(&fault),
     };
-    Some((word, fonts.count()))
+    let count = fonts.count();
+    let first = if count == 0 { None } else { FontId::new(0) };
+    if !is_found(&fonts, &doc, first) {
+        return None;
+    }
+    Some((word, count))
 }
 
 /// A shelf with the real fonts f and g, of which g has no bitmap of code 66, and the virtual fonts v, which sets code 65 of itself, and
@@ -145,7 +159,7 @@ fn pages(rt: HostRuntime) -> Result<(), Fail> {
     for (name, body, word, known) in PAGES {
         let bytes = document(rt.alloc(), name, &body)?;
         let Some((found, count)) = loading(rt.alloc(), &mut shelf, &bytes) else {
-            return Err("no document".into());
+            return Err("no document, or its font isn't found".into());
         };
         assert_eq!(rt; found, word, "{name} {body:?}");
         assert_eq!(rt; count, known, "{name} {body:?}");

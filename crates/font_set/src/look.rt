@@ -48,7 +48,7 @@ impl Fonts {
     }
 
     /// The width of a character in parts of the size, as a fix_word.
-    fn fix_word(&self, id: FontId, code: u8) -> Option<i32>
+    pub(crate) fn fix_word(&self, id: FontId, code: u8) -> Option<i32>
         requires given { id < length self.now.fonts }
         ensures value { result ≡ fix_word_in (state_at self.now id) code }
         ensures fine { IfSome result (λ parts. unsigned_abs parts ≤ 2 ^ 24) }

@@ -39,7 +39,7 @@ impl Fonts {
         ensures shown { IsTrue result → IsShown (state_at self.now id) code }
         ensures real { IsTrue result → packet_at self.now id code ≡ None }
     {
-        if self.width(id, code).is_none() {
+        if self.fix_word(id, code).is_none() {
             return false;
         }
         match self.font(id) {
@@ -95,7 +95,7 @@ impl Fonts {
             return Ok(false);
         }
         agenda.push(&moved(place, place.at + 1, place.font))?;
-        agenda.meet(id, code);
+        agenda.meet(id, code)?;
         agenda.push(&Place {
             home: Home::Packet {
                 font: id.number(),
@@ -109,12 +109,20 @@ impl Fonts {
     }
 
     /// The font that the command at a place of a page selects, where it is known, and the place behind the command.
-    fn known_at(&self, sheet: &Sheet<'_>, place: &Place) -> Option<(FontId, usize)>
+    fn known_at(
+        &self,
+        sheet: &Sheet<'_>,
+        place: &Place,
+        agenda: &mut Agenda,
+    ) -> Option<(FontId, usize)>
         requires inside { place.now.at < place.now.end }
         requires placed { IsPlaced sheet.now self.now place.now }
         ensures selects { IfSome result (λ r. (key : FontKey) × Reads sheet.now self.now place.now (record { next = r.1; does = does.Selects key }) × (place_of self.now.fonts (key_of key) ≡ Some r.0)) }
+        ensures same { agenda.new ≡ agenda.old }
     {
         one_spelling();
+        // The proof cites that each key of the table is one that may be selected.
+        let _ = &self.table;
         let Home::Page = place.home else {
             return None;
         };
@@ -124,8 +132,8 @@ impl Fonts {
         let Cmd::Fnt(k) = cmd else {
             return None;
         };
-        let key = sheet.font(k)?;
-        let id = self.id(&key)?;
+        let font = sheet.definition(k)?;
+        let id = agenda.id_of(self, k, font)?;
         Some((id, next))
     }
 
@@ -141,7 +149,7 @@ impl Fonts {
         ensures steps { IfOk result (λ ran. IsTrue ran → Steps sheet.now place.now self.now self.now agenda.old agenda.new) }
         ensures same { IfOk result (λ ran. IsFalse ran → agenda.new ≡ agenda.old) }
     {
-        let Some(found) = self.known_at(sheet, place) else {
+        let Some(found) = self.known_at(sheet, place, agenda) else {
             return Ok(false);
         };
         let (id, next) = found;
@@ -151,8 +159,7 @@ impl Fonts {
 
     /// Runs the command at a place of a page, where it meets a glyph of a loaded font or selects a font that is known; answers whether it
     /// does.
-    // Almost all of a page that asks something of fonts is such, and no fault's value is made for it.
-    pub(crate) fn run_quick(
+    fn run_quick(
         &self,
         sheet: &Sheet<'_>,
         place: &Place,
@@ -168,5 +175,28 @@ impl Fonts {
             return Ok(true);
         }
         self.select_known(sheet, place, agenda)
+    }
+
+    /// Goes on from the last open place: passes over what asks nothing of fonts, and runs the command behind it, where it is one that
+    /// [`Fonts::run_quick`] runs; answers whether it did so, else nothing is done.
+    // Almost all of a page that asks something of fonts is such, and no fault's value is made for it.
+    pub(crate) fn advance(
+        &self,
+        sheet: &Sheet<'_>,
+        place: &Place,
+        agenda: &mut Agenda,
+    ) -> Result<bool, AllocError>
+        requires inside { place.now.at < place.now.end }
+        requires found { (old : FontSet) × FoundAt sheet.now old self.now agenda.old.met (place.now ∷ agenda.old.places) }
+        ensures steps { IfOk result (λ ran. IsTrue ran → Steps sheet.now place.now self.now self.now agenda.old agenda.new) }
+        ensures same { IfOk result (λ ran. IsFalse ran → agenda.new ≡ agenda.old) }
+    {
+        one_spelling();
+        let at = self.skimmed(sheet, place, agenda);
+        let ahead = moved(place, at, place.font);
+        if ahead.at >= ahead.end {
+            return Ok(true);
+        }
+        self.run_quick(sheet, &ahead, agenda)
     }
 }

@@ -1,9 +1,11 @@
 //! Reads the commands of a frame, for what they do with fonts.
-ghost use Rattle.std.specs.Prelude.{◌≡◌, ◌<◌, ◌≤◌, ◌^◌, ◌+◌, ℕ, List, length, drop, slice_range, IfOk, IfErr};
+ghost use Rattle.std.specs.Prelude.{◌≡◌, ◌<◌, ◌≤◌, ◌^◌, ◌+◌, ℕ, List, length, drop, slice_range, Some, IfSome, IfOk, IfErr, MatchOption};
 ghost use Rattle.dvi_ops.specs.Command.{Command};
 ghost use Rattle.dvi_ops.specs.Placed.{Placed, Lexes};
 ghost use Rattle.dvi_ops.specs.Spelling.{Spell};
 ghost use Rattle.dvi_ops.specs.View.{view};
+ghost use Rattle.dvi_doc.specs.Grammar.{IsNamed, IsSized};
+ghost use Rattle.font_set.specs.Programs.{HasNumber, key_in, key_by};
 ghost use Rattle.font_set.specs.Locals.{KeyAnswer};
 ghost use Rattle.font_set.specs.Search.{IsHome, IsTurnFault, program_of, bytes_of, first_of, spot_at, fonts_of};
 ghost use Rattle.font_set.specs.Found.{Reads, IsPlaced};
@@ -13,7 +15,7 @@ use crate::agenda::{Home, Place};
 use crate::fault::{FontFault, LoadFault};
 use crate::fonts::Fonts;
 use dv_base::{FontId, Spot};
-use dvi_doc::{Doc, FontKey};
+use dvi_doc::{Doc, FontDef, FontKey};
 use dvi_ops::{Cmd, command_at, one_spelling};
 use std::marker::Model;
 
@@ -63,12 +65,21 @@ impl<'a> Model for Sheet<'a> {
 }
 
 impl<'a> Sheet<'a> {
+    /// The definition of the font that a number names in the page, where it names one.
+    pub(crate) fn definition(&self, k: i64) -> Option<&FontDef<'a>>
+        ensures found { MatchOption result (HasNumber self.now.page.scope.fonts k → ⊥) (λ font. key_in self.now.page.scope.fonts k ≡ Some (key_by font.now)) }
+        ensures named { IfSome result (λ font. IsNamed font.now) }
+        ensures sized { IfSome result (λ font. IsSized font.now) }
+    {
+        self.doc.font(k)
+    }
+
     /// The key that a number names in the page, where it names one.
     pub(crate) fn font(&self, k: i64) -> Option<FontKey>
         ensures { KeyAnswer self.now.page.scope.fonts k result }
     {
-        match self.doc.font(k) {
-            Some(font) => Some(FontKey::of(font)),
+        match self.definition(k) {
+            Some(font) => Some(FontKey::of(&font.def())),
             None => None,
         }
     }

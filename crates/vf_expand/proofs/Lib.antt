@@ -16,6 +16,7 @@ pub mod Expansion
 pub mod Packets
 mod Rooms
 mod Quick
+mod Nops
 mod Amounts
 mod Selecting
 pub mod Paging

@@ -6,14 +6,8 @@ use Rattle.std.specs.Ordering.{int_eq}
 use Rattle.std.proofs.lemmas.Bool.Decides.{Decides-int_eq}
 use Rattle.dvi_ops.specs.Command.{Definition}
 use Rattle.dvi_doc.specs.Grammar.{Defines, DefinesTwice}
-use Rattle.dvi_doc.specs.View.{IsKeyOf}
-use Rattle.dvi_doc.specs.declared.font.FontKey.{FontKey}
 use Rattle.font_set.specs.Key.{Key}
-use Rattle.font_set.specs.Views.{key_of}
-use Rattle.font_set.specs.Programs.{Named, key_in, page_fonts}
-
-abbrev pub key_by : Definition → Key
-key_by d = record { name = d.name; checksum = d.checksum; size = unsigned_abs d.size; design = unsigned_abs d.design }
+use Rattle.font_set.specs.Programs.{Named, key_by, key_in, page_fonts}
 
 differ : false ≡ true → ⊥
 differ e = cc
@@ -60,11 +54,3 @@ pub key_one : (ds : List Definition) (d : Definition) (k : ℤ) → Contains ds 
 key_one ds d k c e once = ap (key_in (page_fonts ds)) (sym e) ∙ key_at ds d c.0 c.1 c.2 (λ t. once (subst (DefinesTwice ds) e t))
 
 -- the key that the code makes of a definition
-pub key_is : (d : Definition) (key : FontKey) → IsKeyOf d key → key_of key ≡ key_by d
-key_is d key h =
-    let size : key.size ≡ unsigned_abs d.size = ap unsigned_abs h.2 in
-    let design : key.design ≡ unsigned_abs d.design = ap unsigned_abs h.3 in
-    ap (λ (n : List ℕ). record { name = n; checksum = key.checksum; size = key.size; design = key.design }) h.0
-    ∙ ap (λ (n : ℕ). record { name = d.name; checksum = n; size = key.size; design = key.design }) h.1
-    ∙ ap (λ (n : ℕ). record { name = d.name; checksum = d.checksum; size = n; design = key.design }) size
-    ∙ ap (λ (n : ℕ). record { name = d.name; checksum = d.checksum; size = unsigned_abs d.size; design = n }) design

@@ -13,6 +13,7 @@ pub mod Homes
 pub mod Shown
 pub mod Shallow
 pub mod Quick
+pub mod Nops
 pub mod Page
 pub mod Faultless
 pub mod Given

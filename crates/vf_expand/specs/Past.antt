@@ -3,14 +3,13 @@ use Rattle.std.specs.Prelude.{◌≤◌, ℕ, List, Option, Some, None, slice_ge
 use Rattle.vf_expand.specs.declared.met.Met.{Met}
 use Rattle.vf_expand.specs.declared.met.Start.{Start}
 
--- the page on which the glyph of a slot was met
-abbrev pub page_in : Option (Option Met) → ℕ
+-- the page on which the character of a slot was met
+abbrev pub page_in : Option Met → ℕ
 page_in None = 0
-page_in (Some None) = 0
-page_in (Some (Some m)) = m.page
+page_in (Some m) = m.page
 
 -- what is kept was met on this page or on one before it
-pub record AreOfPages (page : ℕ) (ms : List (Option Met)) : Type 0 where
+pub record AreOfPages (page : ℕ) (ms : List Met) : Type 0 where
   pub each : (slot : ℕ) → page_in (slice_get ms slot) ≤ page
 
 -- the page on which the virtual font of a slot was met

@@ -34,11 +34,10 @@ slot_of font code = font % 16 * 256 + code
 abbrev pub start_of : FontSet → ℕ → Option ℕ
 start_of set font = id_of set (key_of_first (head_of (locals_at set font)))
 
--- What stands in a slot: nothing, or what was met on another page, or a character of this page.
-abbrev pub IsMet : Grid → FontSet → ℕ → ℕ → Option (Option Met) → Type 0
+-- What stands in a slot: what was met on another page, or a character of this page.
+abbrev pub IsMet : Grid → FontSet → ℕ → ℕ → Option Met → Type 0
 IsMet g set page slot None = Unit {0}
-IsMet g set page slot (Some None) = Unit {0}
-IsMet g set page slot (Some (Some m)) = m.page ≡ page → IsChar g set m.font (slot % 256) m.glyph m.wide
+IsMet g set page slot (Some m) = m.page ≡ page → IsChar g set m.font (slot % 256) m.glyph m.wide
 
 -- The same of the slot of a virtual font.
 abbrev pub IsStart : FontSet → ℕ → Option (Option Start) → Type 0

@@ -42,12 +42,30 @@ fn character(grid: &Grid, fonts: &Fonts, font: FontId, code: u8) -> (bool, Wide)
     (glyph, grid.wide(width))
 }
 
+/// What stands in a slot where no character was met.
+fn nothing() -> Met
+    ensures { result.page ≡ 0 }
+{
+    match FontId::new(0) {
+        Some(font) => Met {
+            page: 0,
+            font,
+            glyph: false,
+            wide: Wide {
+                width: 0,
+                pixels: 0,
+            },
+        },
+        None => unreachable!(),
+    }
+}
+
 /// Slots in which no character is kept.
-fn no_characters(alloc: Global) -> Result<Vec<Option<Met>>, AllocError>
+fn no_characters(alloc: Global) -> Result<Vec<Met>, AllocError>
     ensures slots { IfOk result (λ met. vec_len met ≡ 4096) }
     ensures pages { IfOk result (λ met. AreOfPages 0 met.items) }
 {
-    let met = vec![in alloc; None; SLOTS]?;
+    let met = vec![in alloc; nothing(); SLOTS]?;
     Ok(met)
 }
 
@@ -64,7 +82,7 @@ impl Glyphs {
     /// None was met.
     pub fn new(alloc: Global) -> Result<Glyphs, AllocError> {
         Ok(Glyphs {
-            page: 0,
+            page: 1,
             met: no_characters(alloc)?,
             starts: no_starts(alloc)?,
         })
@@ -75,9 +93,9 @@ impl Glyphs {
         ensures { (g : grid.Grid) (set : FontSet) → AreMet g set self.new }
     {
         if self.page == u32::MAX {
-            self.met.fill(None);
+            self.met.fill(nothing());
             self.starts.fill(None);
-            self.page = 0;
+            self.page = 1;
         } else {
             self.page += 1;
         }
@@ -92,9 +110,11 @@ impl Glyphs {
         ensures value { IsChar grid.now fonts.now font code result.0 result.1 }
         ensures met { AreMet grid.now fonts.now self.new }
     {
-        match self.met[slot_of(font, code)] {
-            Some(met) if met.font == font && met.page == self.page => (met.glyph, met.wide),
-            _ => self.look_up(grid, fonts, font, code),
+        let met = self.met[slot_of(font, code)];
+        if met.font == font && met.page == self.page {
+            (met.glyph, met.wide)
+        } else {
+            self.look_up(grid, fonts, font, code)
         }
     }
 
@@ -103,9 +123,11 @@ impl Glyphs {
     pub fn kept(&self, font: FontId, code: u8) -> Option<Wide>
         ensures { (g : grid.Grid) (set : FontSet) → AreMet g set self.now → IfSome result (λ wide. IsChar g set font code true wide) }
     {
-        match self.met[slot_of(font, code)] {
-            Some(met) if met.font == font && met.page == self.page && met.glyph => Some(met.wide),
-            _ => None,
+        let met = self.met[slot_of(font, code)];
+        if met.font == font && met.page == self.page && met.glyph {
+            Some(met.wide)
+        } else {
+            None
         }
     }
 
@@ -113,12 +135,12 @@ impl Glyphs {
     fn keep(&mut self, font: FontId, code: u8, glyph: bool, wide: Wide)
         ensures { (g : grid.Grid) (set : FontSet) → AreMet g set self.old → IsChar g set font code glyph wide → AreMet g set self.new }
     {
-        self.met[slot_of(font, code)] = Some(Met {
+        self.met[slot_of(font, code)] = Met {
             page: self.page,
             font,
             glyph,
             wide,
-        });
+        };
     }
 
     /// The same of a character that isn't kept; it is kept then.

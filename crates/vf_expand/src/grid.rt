@@ -48,7 +48,8 @@ impl Wide {
         requires { unsigned_abs self.now.width < 2 ^ 32 }
         ensures { IsTrue result → IsLarge (here.now.h +ℤ self.now.width) → ⊥ }
     {
-        (here.h + self.width).unsigned_abs() < 1 << 31
+        let behind = here.h + self.width;
+        -(1 << 31) < behind && behind < 1 << 31
     }
 }
 

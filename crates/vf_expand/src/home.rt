@@ -8,7 +8,7 @@ ghost use Rattle.vf_expand.specs.Homes.{first_of, spot_of, scope_of, scope_in, p
 
 use crate::grid::Grid;
 use dv_base::{FontId, Spot, scale};
-use dvi_doc::{Doc, FontKey};
+use dvi_doc::Doc;
 use font_set::Fonts;
 use positions::Pos;
 
@@ -63,15 +63,16 @@ pub struct Frame<'a> {
 }
 
 impl<'a> Frame<'a> {
-    /// The font that a number names.
-    pub fn select(&self, k: i64) -> Option<FontId>
+    /// The font that a number names. On a page the hint, which may be any id or none, becomes the answer: where it is the answer already, the
+    /// font is found at once.
+    pub fn select(&self, k: i64, hint: &mut Option<FontId>) -> Option<FontId>
         requires given { IsGiven self.now.fonts.now self.now.home }
         ensures { result ≡ select self.now.fonts.now (scope_in self.now) k }
     {
         match self.home {
             Home::Page { doc, .. } => {
                 let font = doc.font(k)?;
-                self.fonts.id(&FontKey::of(font))
+                self.fonts.id_of(font, hint)
             }
             Home::Packet { font, .. } => self.fonts.local(font, k),
         }

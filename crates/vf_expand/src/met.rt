@@ -1,5 +1,5 @@
 //! What was met on a page and is kept.
-ghost use Rattle.std.specs.Prelude.{◌≡◌, vec_len};
+ghost use Rattle.std.specs.Prelude.{◌≡◌, ◌≤◌, vec_len};
 ghost use Rattle.vf_expand.specs.Past.{AreOfPages, AreStartsOfPages};
 
 use crate::grid::Wide;
@@ -24,12 +24,14 @@ pub struct Start {
 
 /// Of each slot what was met last: most characters of a page are met again soon, and then nothing is looked up.
 ///
-/// What was met on other pages doesn't count: so a new page forgets all, and nothing has to be cleared.
+/// Pages are counted from 1, and where nothing was met stands the page 0. What was met on other pages doesn't count: so a new page forgets
+/// all, and nothing has to be cleared.
 #[derive(Drop)]
 pub struct Glyphs {
     pub page: u32,
-    pub met: Vec<Option<Met>>,
+    pub met: Vec<Met>,
     pub starts: Vec<Option<Start>>,
+    ghost begun: { 1 ≤ page },
     ghost slots: { vec_len met ≡ 4096 },
     ghost few: { vec_len starts ≡ 16 },
     ghost past: { AreOfPages page met.items },

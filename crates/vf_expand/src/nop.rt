@@ -1,19 +1,22 @@
 //! Nops.
-ghost use Rattle.std.specs.Prelude.{◌≤◌, ◌<◌, ◌+◌, length, slice_range, IfSome};
-ghost use Rattle.dvi_ops.specs.Spelling.{Spell};
-ghost use Rattle.dvi_ops.specs.View.{view};
+ghost use Rattle.std.specs.Prelude.{◌≤◌, ◌+◌, length};
+ghost use Rattle.vf_expand.specs.Nops.{AreNops};
 
-use dvi_ops::{Cmd, is_nop};
+use dvi_ops::is_nop;
 
-/// The nop at a place, where one stands there; `None` elsewhere.
-// Told before all others, so that no larger value is made of it.
-#[inline(always)]
-pub fn nop_at(bytes: &[u8], at: usize) -> Option<Cmd<'_>>
-    requires { at < length bytes.now }
-    ensures { IfSome result (λ cmd. (at < at + 1) × (at + 1 ≤ length bytes.now) × Spell (view cmd) (slice_range bytes.now at (at + 1))) }
+/// The place behind the nops that stand one behind another from a place on, `most` of them at most.
+// A loop of its own: its state is a place, and stays in registers.
+#[inline(never)]
+pub fn behind_nops(bytes: &[u8], start: usize, most: usize) -> usize
+    requires inside { start + most ≤ length bytes.now }
+    ensures further { start ≤ result }
+    ensures most { result ≤ start + most }
+    ensures nops { AreNops bytes.now start result }
 {
-    if is_nop(bytes, at) {
-        return Some(Cmd::Nop);
+    let end = start + most;
+    let mut at = start;
+    while at < end && is_nop(bytes, at) {
+        at += 1;
     }
-    None
+    at
 }

@@ -1,8 +1,9 @@
 //! The walk over a page's bytes, through the packets that it runs.
-ghost use Rattle.std.specs.Prelude.{◌≡◌, ◌+◌, ◌<◌, ◌≤◌, ◌^◌, pos, List, [], ◌∷◌, Option, length, take, vec_len, vec_capacity, OnOk, IfOk, IfErr, IfSome, Some, None, unsigned_abs};
+ghost use Rattle.std.specs.Prelude.{◌≡◌, ◌+◌, ◌<◌, ◌≤◌, ◌^◌, pos, List, [], ◌∷◌, Option, length, take, vec_len, vec_capacity, OnOk, IfOk, IfErr, IfSome, Some, None, unsigned_abs, slice_range};
 ghost use Rattle.positions.specs.Conditions.{SameCondition};
 ghost use Rattle.dvi_ops.specs.Placed.{Placed, Lexes};
-ghost use Rattle.dvi_ops.specs.Command.Command.{Set};
+ghost use Rattle.dvi_ops.specs.Command.Command.{Set, Nop};
+ghost use Rattle.dvi_ops.specs.Spelling.{Spell};
 ghost use Rattle.dvi_ops.specs.View.{view};
 ghost use Rattle.font_set.specs.Key.{Key};
 ghost use Rattle.font_set.specs.Programs.{id_of, select};
@@ -16,6 +17,7 @@ ghost use Rattle.vf_expand.specs.Marks.{marks_alone};
 ghost use Rattle.vf_expand.specs.Painted.{HasGlyph};
 ghost use Rattle.vf_expand.specs.Wide.{IsWide, AreMet};
 ghost use Rattle.vf_expand.specs.Quick.{IsQuick};
+ghost use Rattle.vf_expand.specs.Nops.{AreNops};
 ghost use Rattle.vf_expand.specs.declared.fault.WalkFault.TheVariants as fault;
 ghost use Rattle.vf_expand.specs.Turn.{turned, turn_marks, open_at};
 ghost use Rattle.vf_expand.specs.Takes.{Took, TookPage, TookChar, FollowsTurn, Stops, char_marks};
@@ -27,11 +29,11 @@ use crate::fault::{Halt, WalkFault};
 use crate::grid::Wide;
 use crate::home::{Frame, Home, inner};
 use crate::met::Glyphs;
-use crate::nop::nop_at;
+use crate::nop::behind_nops;
 use crate::paint::put_glyph;
 use crate::plain::plain;
 use dv_base::{FontId, Spot};
-use dvi_ops::{Cmd, next_cmd, one_reading, one_spelling};
+use dvi_ops::{Cmd, is_nop, next_cmd, one_reading, one_spelling};
 use positions::{Canvas, Passed, Pos};
 use std::alloc::{AllocError, Global};
 
@@ -41,12 +43,17 @@ pub const MOST_OPEN: usize = 1_000;
 /// How many commands may be met.
 const MOST_STEPS: u64 = 50_000_000;
 
+/// How many selected fonts are remembered.
+const HINTS: usize = 16;
+
 /// The places of the open pushes of all frames, how many commands were met, and widths of glyphs.
 #[derive(Drop)]
 pub struct Run {
     pub saved: Vec<Pos>,
     pub steps: u64,
     pub glyphs: Glyphs,
+    /// By the number of a page's font, modulo 16, the font that was selected last.
+    pub hints: [Option<FontId>; HINTS],
     ghost room: { 1000 ≤ vec_capacity saved },
     ghost most: { vec_len saved ≤ 1000 },
     ghost few: { steps ≤ 50000000 },
@@ -74,6 +81,7 @@ impl Run {
             saved,
             steps: 0,
             glyphs: Glyphs::new(alloc)?,
+            hints: [None; HINTS],
         })
     }
 
@@ -106,12 +114,6 @@ impl Run {
         let mut font = self.glyphs.first(frame);
         let mut at = 0;
         while at < bytes.len() {
-            if let Some(cmd) = nop_at(bytes, at) {
-                let spot = frame.home.spot(at);
-                at += 1;
-                self.turn(frame, &cmd, spot, &mut pos, &mut font, canvas)?;
-                continue;
-            }
             let op = bytes[at];
             if let Some((id, wide)) = self.quick(frame, op, font, &pos) {
                 match self.set(frame, id, op, &wide, &mut pos, canvas) {
@@ -119,6 +121,10 @@ impl Run {
                     Err(f) => return Err(WalkFault::Canvas(f)),
                 }
                 at += 1;
+                continue;
+            }
+            if self.steps < MOST_STEPS && is_nop(bytes, at) {
+                at = self.pass_nops(bytes, at);
                 continue;
             }
             match next_cmd(bytes, at) {
@@ -135,6 +141,26 @@ impl Run {
         } else {
             Err(WalkFault::StackLeft(frame.home.spot(bytes.len())))
         }
+    }
+
+    /// Passes over a nop and those behind it, as many as may still be met; answers the place behind them.
+    // A page may be nops almost all: no command is made for each.
+    fn pass_nops(&mut self, bytes: &[u8], at: usize) -> usize
+        requires there { at < length bytes.now }
+        requires nop { Spell Nop (slice_range bytes.now at (at + 1)) }
+        requires few { self.old.steps < 50000000 }
+        ensures further { at < result }
+        ensures inside { result ≤ length bytes.now }
+        ensures nops { AreNops bytes.now at result }
+        ensures steps { self.new.steps + at ≡ self.old.steps + result }
+        ensures stack { self.new.saved.items ≡ self.old.saved.items }
+        ensures met { self.new.glyphs ≡ self.old.glyphs }
+    {
+        let next = at + 1;
+        let left = (MOST_STEPS - self.steps) as usize - 1;
+        let end = behind_nops(bytes, next, left.min(bytes.len() - next));
+        self.steps += (end - at) as u64;
+        end
     }
 
     /// The font and the width of the character in one byte, where its glyph is kept and nothing stops it.
@@ -252,7 +278,7 @@ impl Run {
                     None => unreachable!(),
                 }
             }
-            Cmd::Fnt(k) => match frame.select(*k) {
+            Cmd::Fnt(k) => match frame.select(*k, &mut self.hints[k.rem_euclid(16) as usize]) {
                 Some(id) => {
                     *font = Some(id);
                     Ok(())

@@ -12,7 +12,7 @@ ghost use Rattle.vf_packets.specs.LocalViews.{local_view};
 
 use crate::fault::VfFault;
 use dv_base::{FileName, font_name};
-use dvi_ops::{Def, NumberIndex};
+use dvi_ops::{Def, NumberIndex, Numbers};
 use std::alloc::{AllocError, Global};
 use std::marker::Model;
 
@@ -20,7 +20,7 @@ use std::marker::Model;
 /// fix_words (2 ^ 20 stands for 1).
 #[derive(Clone, Copy, PartialEq, Eq, Hash, Drop)]
 pub struct Local {
-    pub k: i64,
+    pub k: i32,
     pub checksum: u32,
     pub scale: i32,
     pub design: i32,
@@ -62,15 +62,18 @@ impl Model for Locals {
     ghost invariant = { λ l. IsPermutation (numbered 0 (numbers_of (map local_view l.fonts.items))) l.index };
 }
 
-/// The index of the numbers of fonts.
+/// The index of the numbers of fonts; an index has no room for more than 2^32.
 fn index_of(alloc: Global, fonts: &[Local]) -> Result<NumberIndex, AllocError>
     ensures { IfOk result (λ index. IsPermutation (numbered 0 (numbers_of (map local_view fonts.now))) index) }
 {
-    let mut pairs = Vec::new(alloc);
+    let mut numbers = Numbers::with_room(alloc, fonts.len())?;
     for (place, font) in fonts.iter().enumerate() {
-        pairs.push((font.k, place))?;
+        let Ok(place) = u32::try_from(place) else {
+            return Err(AllocError);
+        };
+        numbers.push(font.k, place)?;
     }
-    Ok(NumberIndex::new(pairs))
+    Ok(NumberIndex::new(numbers))
 }
 
 impl Locals {
@@ -99,6 +102,6 @@ impl Locals {
         ensures { result ≡ first_number self.now }
     {
         let font = self.fonts.first()?;
-        Some(font.k)
+        Some(i64::from(font.k))
     }
 }

@@ -82,7 +82,7 @@ fn take_definition(fonts: &mut Vec<Local>, bytes: &[u8], at: usize) -> Result<us
         return Err(VfFault::Short(at));
     };
     let Some(font) = local_font(&def) else {
-        return Err(VfFault::BadName(def.k));
+        return Err(VfFault::BadName(i64::from(def.k)));
     };
     fonts.reserve(1)?;
     fonts.push_reserved(font);

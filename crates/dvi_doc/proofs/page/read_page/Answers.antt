@@ -1,6 +1,5 @@
-use Rattle.std.proofs.Common.{arith, ◌≡◌, ◌∷◌, ◌++◌, [], inl, ap, subst, ◌∙◌, map}
-use Rattle.std.proofs.lemmas.List.{map-append}
-use Rattle.dvi_ops.specs.Command.{Command}
+use Rattle.std.proofs.Common.{arith, ◌≡◌, ◌∷◌, ◌++◌, [], inl, ap, subst, ◌∙◌}
+use Rattle.dvi_ops.specs.Command.{Command, Definition}
 use Rattle.dvi_ops.specs.Command.Command.{Eop, FntDef}
 use Rattle.dvi_ops.specs.View.{view, def_view}
 use Rattle.dvi_ops.specs.declared.cmd.Cmd.{Cmd}
@@ -43,10 +42,11 @@ loop-at-preserved-in-FntDef c =
     let end = c.in_ok-cmd.end in
     let old = c.args.earlier.now.items in
     let new = c.push.new.self.items in
-    let d : Command = FntDef (def_view c.in-FntDef.def) in
+    let def = def_view c.in-FntDef.field-0 in
+    let d : Command = FntDef def in
     let s : SpelledTo bytes at end d = subst (λ (x : Cmd). SpelledTo bytes at end (view x)) c.in-FntDef.is f.0 in
-    let more : map def_view new ≡ map def_view c.loop-at.earlier.items ++ put_definition d [] =
-    ap (map def_view) c.in_ok-push-in-FntDef.ensures.items ∙ map-append def_view c.loop-at.earlier.items (c.in-FntDef.def ∷ []) in
+    let more : new ≡ c.loop-at.earlier.items ++ put_definition d [] =
+    c.in_ok-push-in-FntDef.ensures.items ∙ ap (λ (x : Definition). c.loop-at.earlier.items ++ x ∷ []) (c.between.ensures def s) in
     record {
       onward = omega (arith, i.onward, f.0.0, p.further);
       inside = p.within;
@@ -54,6 +54,11 @@ loop-at-preserved-in-FntDef c =
           (page_more bytes start at end d old c.loop-at.earlier.items new i.onward s tt more i.holds);
       reached = λ last h. reach_passed p.passed.0 bytes end c.pass_commands-at-in-FntDef.result last p.passed.1 (reach_inner bytes at end last d s tt (i.reached last h));
     }
+
+pub between-requires : goal.between-requires
+between-requires c =
+    let s = c.in_ok-cmd.ensures.found.0 in
+    (def_view c.in-FntDef.field-0, subst (λ (x : Cmd). SpelledTo c.args.bytes.now c.loop-at.at c.in_ok-cmd.end (view x)) c.in-FntDef.is s)
 
 pub returns-then-not-is_inner : goal.returns-then-not-is_inner
 returns-then-not-is_inner c =

@@ -1,5 +1,4 @@
-use Rattle.std.proofs.Common.{◌≡◌, ◌≤◌, ◌-◌, ◌++◌, ℤ, List, map, slice_range}
-use Rattle.dvi_ops.specs.View.{def_view}
+use Rattle.std.proofs.Common.{◌≡◌, ◌≤◌, ◌-◌, ◌++◌, ℤ, List, slice_range}
 use Rattle.dvi_ops.specs.Placed.{Placed, Lexes}
 use Rattle.dvi_doc.specs.Document.{definitions_of}
 use Rattle.dvi_doc.specs.Grammar.{AllInner}
@@ -12,7 +11,7 @@ invariant-loop-at l =
     record {
       onward : l.start ≤ l.at;
       inside : l.at ≤ l.ends;
-      holds : (cs : List Placed) × AllInner cs × Lexes l.start (slice_range l.bytes l.start l.at) cs × (map def_view l.earlier.items ≡ map def_view l.fn.earlier.items ++ definitions_of cs);
+      holds : (cs : List Placed) × AllInner cs × Lexes l.start (slice_range l.bytes l.start l.at) cs × (l.earlier.items ≡ l.fn.earlier.items ++ definitions_of cs);
       reached : (last : ℤ) → Reaches l.bytes l.start (reading Inside last 0) → Reaches l.bytes l.at (reading Inside last 0);
     }
 

@@ -1,8 +1,8 @@
-use Rattle.std.proofs.Common.{arith, ◌≡◌, ◌∷◌, ◌++◌, [], inl, refl, sym, ap, subst, ◌∙◌, ℤ, pos, map, rules, FitsSigned, w32}
+use Rattle.std.proofs.Common.{arith, ◌≡◌, ◌∷◌, ◌++◌, [], inl, refl, sym, ap, subst, ◌∙◌, ℤ, pos, rules, FitsSigned, w32}
 use Rattle.std.proofs.lemmas.Int.{to_z-of_z}
 use Rattle.std.proofs.lemmas.Result.{err_from_is_err_and}
-use Rattle.std.proofs.lemmas.List.{map-append, append-nil}
-use Rattle.dvi_ops.specs.Command.{Command}
+use Rattle.std.proofs.lemmas.List.{append-nil}
+use Rattle.dvi_ops.specs.Command.{Command, Definition}
 use Rattle.dvi_ops.specs.Command.Command.{Nop, FntDef, Bop, Post}
 use Rattle.dvi_ops.specs.View.{view, def_view, tail_view}
 use Rattle.dvi_ops.specs.declared.cmd.Cmd.{Cmd}
@@ -26,7 +26,7 @@ loop-at-preserved-in-Nop c =
     record {
       onward = omega (arith, i.onward, f.0.0);
       inside = f.1;
-      holds = filler_more bytes c.args.start at end Nop c.loop-at.pages.items c.loop-at.earlier.items c.loop-at.earlier.items last i.onward s tt (sym (append-nil (map def_view c.loop-at.earlier.items))) i.holds;
+      holds = filler_more bytes c.args.start at end Nop c.loop-at.pages.items c.loop-at.earlier.items c.loop-at.earlier.items last i.onward s tt (sym (append-nil c.loop-at.earlier.items)) i.holds;
       reached = reach_between bytes at end last Nop s tt i.reached;
     }
 
@@ -38,16 +38,22 @@ loop-at-preserved-in-FntDef c =
     let at = c.loop-at.at in
     let end = c.in_ok-cmd.end in
     let last = last_of c.loop-at.last in
-    let d : Command = FntDef (def_view c.in-FntDef.def) in
+    let def = def_view c.in-FntDef.field-0 in
+    let d : Command = FntDef def in
     let s : SpelledTo bytes at end d = subst (λ (x : Cmd). SpelledTo bytes at end (view x)) c.in-FntDef.is f.0 in
-    let more : map def_view c.push.new.self.items ≡ map def_view c.loop-at.earlier.items ++ put_definition d [] =
-    ap (map def_view) c.in_ok-push-in-FntDef.ensures.items ∙ map-append def_view c.loop-at.earlier.items (c.in-FntDef.def ∷ []) in
+    let more : c.push.new.self.items ≡ c.loop-at.earlier.items ++ put_definition d [] =
+    c.in_ok-push-in-FntDef.ensures.items ∙ ap (λ (x : Definition). c.loop-at.earlier.items ++ x ∷ []) (c.between.ensures def s) in
     record {
       onward = omega (arith, i.onward, f.0.0);
       inside = f.1;
       holds = filler_more bytes c.args.start at end d c.loop-at.pages.items c.loop-at.earlier.items c.push.new.self.items last i.onward s tt more i.holds;
       reached = reach_between bytes at end last d s tt i.reached;
     }
+
+pub between-requires : goal.between-requires
+between-requires c =
+    let s = c.in_ok-cmd.ensures.found.0 in
+    (def_view c.in-FntDef.field-0, subst (λ (x : Cmd). SpelledTo c.args.bytes.now c.loop-at.at c.in_ok-cmd.end (view x)) c.in-FntDef.is s)
 
 pub read_page-requires-clause-reached : goal.read_page-requires-clause-reached
 read_page-requires-clause-reached c =

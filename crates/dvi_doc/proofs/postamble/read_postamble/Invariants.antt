@@ -1,5 +1,4 @@
-use Rattle.std.proofs.Common.{◌≡◌, ◌≤◌, ◌-◌, ℕ, ℤ, List, map, slice_range}
-use Rattle.dvi_ops.specs.View.{def_view}
+use Rattle.std.proofs.Common.{◌≡◌, ◌≤◌, ◌-◌, ℕ, ℤ, List, length, slice_range}
 use Rattle.dvi_ops.specs.Placed.{Placed, Lexes}
 use Rattle.dvi_doc.specs.Document.{definitions_of}
 use Rattle.dvi_doc.specs.Grammar.{AllFillers}
@@ -12,7 +11,8 @@ invariant-loop-at l =
     record {
       onward : l.start ≤ l.at;
       inside : l.at ≤ l.ends;
-      holds : (cs : List Placed) × AllFillers cs × Lexes l.start (slice_range l.bytes l.start l.at) cs × (definitions_of cs ≡ map def_view l.fonts.items);
+      few : length l.fonts.items ≤ l.at;
+      holds : (cs : List Placed) × AllFillers cs × Lexes l.start (slice_range l.bytes l.start l.at) cs × (definitions_of cs ≡ l.fonts.items);
       reached : (last : ℤ) (post : ℕ) → Reaches l.bytes l.start (reading Behind last post) → Reaches l.bytes l.at (reading Behind last post);
     }
 

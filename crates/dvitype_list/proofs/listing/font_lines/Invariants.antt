@@ -1,6 +1,5 @@
-use Rattle.std.proofs.Common.{ℕ, List, ◌++◌, take, map}
+use Rattle.std.proofs.Common.{ℕ, List, ◌++◌, take}
 use Rattle.dv_base.specs.Tray.{KeepsNames, Seen}
-use Rattle.dvi_ops.specs.View.{def_view}
 use Rattle.dvitype_list.specs.Gathered.{Gathered}
 use Rattle.dvitype_list.specs.Texts.{font_lines}
 use Rattle.dvitype_list.proofs.listing.font_lines.Given as goal
@@ -10,5 +9,5 @@ invariant-loop-font g l =
     let seen = g.T.Tray.seen in
     record {
       keeps : KeepsNames (seen l.fn.tray) (seen l.tray);
-      goes : (first : Seen) (text : List ℕ) → Gathered first (seen l.fn.tray) l.fn.out.kept.items text → Gathered first (seen l.tray) l.out.kept.items (text ++ font_lines (map def_view (take l.font-index l.fonts)));
+      goes : (first : Seen) (text : List ℕ) → Gathered first (seen l.fn.tray) l.fn.out.kept.items text → Gathered first (seen l.tray) l.out.kept.items (text ++ font_lines (take l.font-index l.fonts));
     }

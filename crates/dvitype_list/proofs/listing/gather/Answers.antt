@@ -1,7 +1,6 @@
 use Rattle.std.proofs.Common.{w64, ◌++◌, ◌∙◌, [], length, map, refl}
 use Rattle.std.proofs.lemmas.Int.{to_z-of_z}
 use Rattle.std.proofs.lemmas.List.{append-nil}
-use Rattle.dvi_ops.specs.View.{def_view}
 use Rattle.dvitype_list.specs.Listing.{pages_run}
 use Rattle.dvitype_list.specs.Standing.{page_start}
 use Rattle.dvitype_list.specs.Texts.{font_lines, head_text}
@@ -24,7 +23,7 @@ returns-in-Err-font_lines-clause-fault g c = λ d is.
     let r = scene.doc.now in
     let seen = g.T.Tray.seen in
     let head = head_text r.head c.args.mag (length r.pages) in
-    let fs = map def_view c.fonts.result.now in
+    let fs = c.fonts.result.now in
     let ok = (rw (to_z-of_z w64 c.args.mag c.ranges.mag) at c.in_default.ensures.ok) (seen c.args.tray.now) [] (gathered_start _ _ c.requires.start) in
     head_cut (setting scene.conv r.fonts c.args.fonts.now) scene.detail d c.args.mag c.args.places.now (seen c.args.tray.now) (seen c.font_lines.new.tray) (head ++ font_lines fs) []
     (append-nil (head ++ font_lines fs) ∙ head_is c.one_document.ensures r d c.args.mag fs c.requires.read is c.fonts.ensures.fonts) (c.in-Err-font_lines.ensures.cut (seen c.args.tray.now) head ok)
@@ -36,7 +35,7 @@ returns-in-Err-pages-clause-fault g c = λ d is.
     let seen = g.T.Tray.seen in
     let first = seen c.args.tray.now in
     let mag = c.args.mag in
-    let fs = map def_view c.fonts.result.now in
+    let fs = c.fonts.result.now in
     let head = head_text r.head mag (length r.pages) in
     let front = head_text d.head mag (length d.pages) ++ font_lines d.fonts in
     let ok = (rw (to_z-of_z w64 mag c.ranges.mag) at c.in_default.ensures.ok) first [] (gathered_start _ _ c.requires.start) in
@@ -53,7 +52,7 @@ returns-in-Ok-clause-ok g c = λ d is.
     let seen = g.T.Tray.seen in
     let first = seen c.args.tray.now in
     let mag = c.args.mag in
-    let fs = map def_view c.fonts.result.now in
+    let fs = c.fonts.result.now in
     let head = head_text r.head mag (length r.pages) in
     let front = head_text d.head mag (length d.pages) ++ font_lines d.fonts in
     let ok = (rw (to_z-of_z w64 mag c.ranges.mag) at c.in_default.ensures.ok) first [] (gathered_start _ _ c.requires.start) in
@@ -70,7 +69,7 @@ returns-in-Err-done_line-clause-fault g c = λ d is.
     let seen = g.T.Tray.seen in
     let first = seen c.args.tray.now in
     let mag = c.args.mag in
-    let fs = map def_view c.fonts.result.now in
+    let fs = c.fonts.result.now in
     let head = head_text r.head mag (length r.pages) in
     let front = head_text d.head mag (length d.pages) ++ font_lines d.fonts in
     let ok = (rw (to_z-of_z w64 mag c.ranges.mag) at c.in_default.ensures.ok) first [] (gathered_start _ _ c.requires.start) in

@@ -1,4 +1,4 @@
-use Rattle.std.proofs.Common.{◌≡◌, ℕ, ℤ, List, [], ◌∷◌, ◌++◌, length, map, take, get_or, subst, ap, ◌∙◌, arith, rules, FitsSigned, w64}
+use Rattle.std.proofs.Common.{◌≡◌, ℕ, ℤ, List, [], ◌∷◌, ◌++◌, length, map, take, get_or, subst, ap, ◌∙◌, arith, rules, FitsSigned, w32}
 use Rattle.std.proofs.lemmas.Int.{to_z-of_z}
 use Rattle.std.proofs.lemmas.List.{take_all, length-take}
 use Rattle.std.specs.List.Sorted.{IsPermutation}
@@ -16,8 +16,9 @@ loop-place-preserved c =
     let f = c.index-fonts-place.result in
     let k : f.k ≡ (get_or fonts place f).k = ap (λ (l : Local). l.k) c.index-fonts-place.is in
     let long : length (take place fonts) ≡ place = grind (arith, length-take place fonts, c.loop-place-test.true) in
-    let fits : FitsSigned w64 f.k = search rules in
-    (rw (to_z-of_z w64 f.k fits) at c.in_ok-push.ensures.items) ∙ ap (λ (l : List (ℤ × ℕ)). l ++ (f.k, place) ∷ []) c.loop-place.invariant
+    let same : c.in-Ok.place ≡ place = search rules in
+    let fits : FitsSigned w32 f.k = search rules in
+    (rw (to_z-of_z w32 f.k fits) at c.in_ok-push.ensures) ∙ ap (λ (n : ℕ). c.loop-place.numbers ++ (f.k, n) ∷ []) same ∙ ap (λ (l : List (ℤ × ℕ)). l ++ (f.k, place) ∷ []) c.loop-place.invariant
     ∙ ap (λ (n : ℤ). numbered 0 (numbers_of (map local_view (take place fonts))) ++ (n, place) ∷ []) k ∙ numbered_more fonts place f c.loop-place-test.true long
 
 pub returns : goal.returns

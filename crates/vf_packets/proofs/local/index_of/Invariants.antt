@@ -6,4 +6,4 @@ use Rattle.vf_packets.specs.LocalViews.{local_view}
 use Rattle.vf_packets.proofs.local.index_of.Given as goal
 
 abbrev pub invariant-loop-place : goal.invariant-loop-place
-invariant-loop-place l = l.pairs.items ≡ numbered 0 (numbers_of (map local_view (take l.place l.fonts)))
+invariant-loop-place l = l.numbers ≡ numbered 0 (numbers_of (map local_view (take l.place l.fonts)))

@@ -1,4 +1,4 @@
-use Rattle.std.proofs.Common.{◌≡◌, ◌∙◌, ◌++◌, ◌∷◌, [], ap, List, rules, FitsSigned, w64}
+use Rattle.std.proofs.Common.{◌≡◌, ◌∙◌, ◌++◌, ◌∷◌, [], ap, List, rules, FitsSigned, w32, w64}
 use Rattle.std.specs.Prelude.{map}
 use Rattle.std.proofs.lemmas.Int.{to_z-of_z}
 use Rattle.dvi_ops.specs.View.{def_view}
@@ -18,8 +18,9 @@ pub returns-in_default-local_font-clause-err : goal.returns-in_default-local_fon
 returns-in_default-local_font-clause-err c =
     let d = def_view c.in-Some.def in
     let f = c.in-Some.ensures in
-    let fits : FitsSigned w64 c.in-Some.def.k = search rules in
-    rw (to_z-of_z w64 c.in-Some.def.k fits)
+    let fits : FitsSigned w32 c.in-Some.def.k = search rules in
+    let wide : FitsSigned w64 c.from.result = search rules in
+    rw (to_z-of_z w64 c.from.result wide ∙ c.from.ensures ∙ to_z-of_z w32 c.in-Some.def.k fits)
     (not_named c.one_spelling.ensures c.args.bytes.now (map local_view c.args.fonts.now.items) c.args.at c.in-Some.next d c.requires.reached f.0 f.1 c.requires.byte f.2 c.in_default-local_font.ensures)
 
 pub returns-clause-ok : goal.returns-clause-ok

@@ -1,7 +1,6 @@
-use Rattle.std.proofs.Common.{◌≡◌, ◌<◌, subst, sym, refl, rules, map, arith, List, length}
+use Rattle.std.proofs.Common.{◌≡◌, ◌<◌, subst, sym, refl, rules, arith, List, length}
 use Rattle.std.proofs.lemmas.Result.{err_from_is_err_and}
-use Rattle.dvi_ops.specs.View.{def_view}
-use Rattle.dvi_ops.specs.declared.cmd.Def.{Def}
+use Rattle.dvi_ops.specs.Command.{Definition}
 use Rattle.dvi_doc.specs.Grammar.{AllAmong}
 use Rattle.dvi_doc.specs.Faults.{FaultIn}
 use Rattle.dvi_doc.specs.PartFaults.{Differs}
@@ -35,7 +34,7 @@ returns-in_err-check-clause-fault c =
     let e = c.in_err-check.field-0.0 in
     rw (p.1, p.2) (differs_fault c.args.bytes.now c.in_ok-parts.parts c.in_ok-fonts.fonts e c.in_ok-parts.ensures.found
     c.in_ok-fonts.ensures.found.0
-    (subst (λ (l : List Def). Differs c.in_ok-fonts.fonts (map def_view l) e) c.deref.ensures.value c.in_err-check.ensures.fault))
+    (subst (λ (l : List Definition). Differs c.in_ok-fonts.fonts l e) c.deref.ensures.value c.in_err-check.ensures.fault))
 
 pub returns-in_err-check-clause-none : goal.returns-in_err-check-clause-none
 returns-in_err-check-clause-none c =
@@ -43,7 +42,7 @@ returns-in_err-check-clause-none c =
     let e = c.in_err-check.field-0.0 in
     let f : FaultIn c.args.bytes.now e = differs_fault c.args.bytes.now c.in_ok-parts.parts c.in_ok-fonts.fonts e c.in_ok-parts.ensures.found
     c.in_ok-fonts.ensures.found.0
-    (subst (λ (l : List Def). Differs c.in_ok-fonts.fonts (map def_view l) e) c.deref.ensures.value c.in_err-check.ensures.fault) in
+    (subst (λ (l : List Definition). Differs c.in_ok-fonts.fonts l e) c.deref.ensures.value c.in_err-check.ensures.fault) in
     rw (p.1, p.2) (refute c.one_spelling.ensures c.args.bytes.now e f)
 
 pub returns-in_err-check_tail-clause-fault : goal.returns-in_err-check_tail-clause-fault
@@ -65,7 +64,7 @@ pub invariant_of-result : goal.invariant_of-result
 invariant_of-result c =
     let n : c.len.result ≡ length c.in_ok-parts.parts.body.pages.items = search rules in
     let r = doc_found c.args.bytes.now c.in_ok-parts.parts c.in_ok-fonts.fonts c.len.result c.in_ok-parts.ensures.found c.in_ok-fonts.ensures.found.0 c.in_ok-fonts.ensures.found.1
-    (subst (λ (l : List Def). AllAmong c.in_ok-fonts.fonts (map def_view l)) c.deref.ensures.value c.in_ok-check.ensures.same) n c.in_ok-check_tail.ensures.same in
+    (subst (λ (l : List Definition). AllAmong c.in_ok-fonts.fonts l) c.deref.ensures.value c.in_ok-check.ensures.same) n c.in_ok-check_tail.ensures.same in
     let short = short_comment c.args.bytes.now r.0 (λ i. (let f = c.type_inv.bytes i in omega (arith, f))) r.1 in
     (r.0, r.1, r.2, subst (λ (h : Preamble). length h.comment < 256) (sym r.2.0) short)
 
@@ -74,5 +73,5 @@ returns-clause-found c =
     let n : c.len.result ≡ length c.in_ok-parts.parts.body.pages.items = search rules in (
       refl,
       doc_found c.args.bytes.now c.in_ok-parts.parts c.in_ok-fonts.fonts c.len.result c.in_ok-parts.ensures.found c.in_ok-fonts.ensures.found.0 c.in_ok-fonts.ensures.found.1
-          (subst (λ (l : List Def). AllAmong c.in_ok-fonts.fonts (map def_view l)) c.deref.ensures.value c.in_ok-check.ensures.same) n c.in_ok-check_tail.ensures.same,
+          (subst (λ (l : List Definition). AllAmong c.in_ok-fonts.fonts l) c.deref.ensures.value c.in_ok-check.ensures.same) n c.in_ok-check_tail.ensures.same,
     )

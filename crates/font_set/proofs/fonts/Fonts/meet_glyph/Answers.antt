@@ -27,6 +27,6 @@ returns-clause-steps c = λ met.
     let here = placed s c.requires.found.0 now a.met p a.places c.requires.found.1 in
     let top : ℕ → Place = λ n. record { home = home.Packet n code; at = 0; end = 0; font = None } in
     let places : c.push-2.new.self.places ≡ top id ∷ c.push.new.self.places =
-    c.in_ok-push-2.ensures.places ∙ ap (λ (n : ℕ). top n ∷ c.meet.new.self.places) c.number.ensures.value ∙ ap (λ (ps : List Place). top id ∷ ps) c.meet.ensures.places in
+    c.in_ok-push-2.ensures.places ∙ ap (λ (n : ℕ). top n ∷ c.meet.new.self.places) c.number.ensures.value ∙ ap (λ (ps : List Place). top id ∷ ps) c.in_ok-meet.ensures.places in
     glyph_step s p c.moved.result t id code now a c.push.new.self c.push-2.new.self e.reads refl e.font e.small here.given (sym c.has_met.ensures ∙ c.if-has_met.false) e.shown e.real
-    c.moved.ensures c.in_ok-push.ensures.places c.in_ok-push.ensures.met (c.in_ok-push-2.ensures.met ∙ c.meet.ensures.met) c.meet.ensures.within places
+    c.moved.ensures c.in_ok-push.ensures.places c.in_ok-push.ensures.met (c.in_ok-push-2.ensures.met ∙ c.in_ok-meet.ensures.met) c.in_ok-meet.ensures.within places

@@ -1,4 +1,5 @@
-use Rattle.std.proofs.Common.{refl}
+use Rattle.std.proofs.Common.{◌≡◌, ◌∷◌, refl, sym, subst}
+use Rattle.font_set.specs.Found.{Todo, FoundAt}
 use Rattle.std.proofs.lemmas.Result.{err_from_is_err_and}
 use Rattle.font_set.specs.LoadFaults.{MustKnow, MustLoad}
 use Rattle.font_set.proofs.Gaining.{gains_self}
@@ -22,12 +23,30 @@ loop-place-preserved-then-place g c = (
   c.loop-place.invariant.2,
 )
 
+pub loop-place-preserved-then-ran : goal.loop-place-preserved-then-ran
+loop-place-preserved-then-ran g c =
+    let steps = c.in_ok-ran.ensures.steps c.if-ran.true in (
+      steps.found c.args.self.now (still_found c.args.sheet.now c.args.self.now c.loop-place.self c.loop-place.agenda c.next.new.self c.in-Some.place c.in-Some.ensures.place c.in-Some.ensures.met c.loop-place.invariant.0),
+      c.loop-place.invariant.1,
+      c.loop-place.invariant.2,
+    )
+
+pub step-requires-clause-found : goal.step-requires-clause-found
+step-requires-clause-found g c =
+    let same = c.in_ok-ran.ensures.same c.if-ran.false in (
+      c.args.self.now,
+      subst (λ (a : Todo). FoundAt c.args.sheet.now c.args.self.now c.loop-place.self a.met (c.in-Some.place ∷ a.places)) (sym same)
+          (still_found c.args.sheet.now c.args.self.now c.loop-place.self c.loop-place.agenda c.next.new.self c.in-Some.place c.in-Some.ensures.place c.in-Some.ensures.met c.loop-place.invariant.0),
+    )
+
 pub loop-place-preserved : goal.loop-place-preserved
 loop-place-preserved g c =
     let before = g.S.Shelf.told c.args.shelf.now in
     let now = g.S.Shelf.told c.loop-place.shelf in
     let steps = c.in_ok-step.ensures.steps in (
-      steps.found c.args.self.now (still_found c.args.sheet.now c.args.self.now c.loop-place.self c.loop-place.agenda c.next.new.self c.in-Some.place c.in-Some.ensures.place c.in-Some.ensures.met c.loop-place.invariant.0),
+      steps.found c.args.self.now
+          (subst (λ (a : Todo). FoundAt c.args.sheet.now c.args.self.now c.loop-place.self a.met (c.in-Some.place ∷ a.places)) (sym (c.in_ok-ran.ensures.same c.if-ran.false))
+          (still_found c.args.sheet.now c.args.self.now c.loop-place.self c.loop-place.agenda c.next.new.self c.in-Some.place c.in-Some.ensures.place c.in-Some.ensures.met c.loop-place.invariant.0)),
       page_gains before.held now.held c.args.sheet.now.page c.args.self.now c.loop-place.self c.step.new.self (let k = c.loop-place.invariant.2 in k.held_same) c.loop-place.invariant.1 c.in_ok-step.ensures.gains,
       keeps_on before now (g.S.Shelf.told c.step.new.shelf) c.loop-place.invariant.2 c.in_ok-step.ensures.keeps,
     )

@@ -1,5 +1,4 @@
-use Rattle.std.proofs.Common.{◌≡◌, ◌∷◌, sym, subst}
-use Rattle.font_set.specs.Found.{Todo, FoundAt, Steps}
+use Rattle.std.proofs.Common.{◌∷◌}
 use Rattle.font_set.proofs.Steps.{placed, on_ok}
 use Rattle.font_set.proofs.Skimming.{found_on, step_on, left_step}
 use Rattle.font_set.proofs.fonts.Fonts.step.Goals as goal
@@ -15,35 +14,17 @@ returns-then-ahead-clause-steps g c =
     step_on c.one_spelling.ensures c.args.sheet.now c.args.place.now c.moved-ahead.result skim.passed.0 c.skimmed-at.result set set todo todo skim.passed.1 skim.further c.moved-ahead.ensures
     (left_step c.args.sheet.now c.moved-ahead.result set todo c.if-ahead.true)
 
-pub run_quick-requires-clause-found : goal.run_quick-requires-clause-found
-run_quick-requires-clause-found g c =
+pub run_command-requires-clause-found : goal.run_command-requires-clause-found
+run_command-requires-clause-found g c =
     let found = c.requires.found in
     let skim = c.skimmed-at.ensures in (
       found.0,
       found_on c.one_spelling.ensures c.args.sheet.now found.0 c.args.self.now c.args.agenda.now.met c.args.place.now c.moved-ahead.result c.args.agenda.now.places skim.passed.0 c.skimmed-at.result skim.passed.1 c.moved-ahead.ensures found.1,
     )
 
-pub returns-then-ran-clause-steps : goal.returns-then-ran-clause-steps
-returns-then-ran-clause-steps g c =
-    let skim = c.skimmed-at.ensures in
-    step_on c.one_spelling.ensures c.args.sheet.now c.args.place.now c.moved-ahead.result skim.passed.0 c.skimmed-at.result c.args.self.now c.args.self.now c.args.agenda.now c.run_quick.new.agenda skim.passed.1 skim.further c.moved-ahead.ensures
-    (c.in_ok-ran.ensures.steps c.if-ran.true)
-
-pub run_command-requires-clause-found : goal.run_command-requires-clause-found
-run_command-requires-clause-found g c =
-    let found = c.requires.found in
-    let skim = c.skimmed-at.ensures in
-    let same : c.run_quick.new.agenda ≡ c.args.agenda.now = c.in_ok-ran.ensures.same c.if-ran.false in (
-      found.0,
-      subst (λ (a : Todo). FoundAt c.args.sheet.now found.0 c.args.self.now a.met (c.moved-ahead.result ∷ a.places)) (sym same)
-          (found_on c.one_spelling.ensures c.args.sheet.now found.0 c.args.self.now c.args.agenda.now.met c.args.place.now c.moved-ahead.result c.args.agenda.now.places skim.passed.0 c.skimmed-at.result skim.passed.1 c.moved-ahead.ensures found.1),
-    )
-
 pub returns-clause-steps : goal.returns-clause-steps
 returns-clause-steps g c =
     let skim = c.skimmed-at.ensures in
-    let same : c.run_quick.new.agenda ≡ c.args.agenda.now = c.in_ok-ran.ensures.same c.if-ran.false in
     on_ok c.run_command.result
-    (λ steps. step_on c.one_spelling.ensures c.args.sheet.now c.args.place.now c.moved-ahead.result skim.passed.0 c.skimmed-at.result c.args.self.now c.run_command.new.self c.args.agenda.now c.run_command.new.agenda skim.passed.1 skim.further c.moved-ahead.ensures
-    (subst (λ (a : Todo). Steps c.args.sheet.now c.moved-ahead.result c.args.self.now c.run_command.new.self a c.run_command.new.agenda) same steps))
+    (λ steps. step_on c.one_spelling.ensures c.args.sheet.now c.args.place.now c.moved-ahead.result skim.passed.0 c.skimmed-at.result c.args.self.now c.run_command.new.self c.args.agenda.now c.run_command.new.agenda skim.passed.1 skim.further c.moved-ahead.ensures steps)
     c.run_command.ensures.steps

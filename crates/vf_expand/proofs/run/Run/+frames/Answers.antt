@@ -1,4 +1,4 @@
-use Rattle.std.proofs.Common.{◌≡◌, ◌<◌, ◌+◌, ◌-◌, ◌∙◌, pos, List, [], ◌∷◌, length, take, drop, Option, Some, None, refl, sym, ap, subst, ℕ, arith, rules, inl, inr, FitsSigned, w64}
+use Rattle.std.proofs.Common.{◌≡◌, ◌<◌, ◌≤◌, ◌+◌, ◌-◌, ◌∙◌, pos, List, [], ◌∷◌, length, take, drop, Option, Some, None, refl, sym, ap, subst, ℕ, arith, rules, inl, inr, FitsSigned, w64}
 use Rattle.std.specs.Prelude.{vec_len}
 use Rattle.std.proofs.lemmas.Int.{to_z-of_z}
 use Rattle.vf_expand.specs.Marks.{Outcome, step}
@@ -24,6 +24,8 @@ use Rattle.dv_base.specs.declared.font_id.Spot.TheVariants as spot
 use Rattle.vf_expand.specs.declared.fault.Halt.{Halt}
 use Rattle.vf_expand.proofs.Bytes.{start_room, more_room, room_all, finish, lexed_next, none_open, pushed, as_many, no_fault, at_end, left_all, rest_nil}
 use Rattle.vf_expand.proofs.Sizes.{special_in_range}
+use Rattle.vf_expand.specs.Nops.{AreNops}
+use Rattle.vf_expand.proofs.Nops.{ahead_behind, counted_behind, goes_behind}
 use Rattle.vf_expand.proofs.Covering.{ahead_start, ahead_next, painted_more}
 use Rattle.vf_expand.proofs.Coming.{took_both, char_alone, follows_more}
 use Rattle.font_set.specs.Fonts.{width_at, packet_at}
@@ -72,30 +74,32 @@ frame-loop-at-init g t c =
 pub frame-spot-requires : goal.frame-spot-requires
 frame-spot-requires g t c = omega (arith, c.requires.short)
 
-pub frame-loop-at-preserved-in-Some : goal.frame-loop-at-preserved-in-Some
-frame-loop-at-preserved-in-Some g t c =
+pub frame-loop-at-preserved-then-is_nop : goal.frame-loop-at-preserved-then-is_nop
+frame-loop-at-preserved-then-is_nop g t c =
     let f = c.args.frame.now in
+    let set = f.fonts.now in
+    let bytes = c.args.bytes.now in
+    let from = first_of f.home in
+    let at = c.loop-at.at in
     let inv = c.loop-at.invariant in
     let a = inv.ahead in
-    let k = c.in-Some.ensures in
-    let e = c.in_ok-turn.ensures in
-    let x = ahead_next c.one_spelling.ensures f.fonts.now (scope_in f) (acts_in f a.0) c.loop-at.font c.args.bytes.now (first_of f.home) c.loop-at.at (c.loop-at.at + 1) (view c.in-Some.cmd) k.0 k.1 k.2 a.3 in
+    let e = c.pass_nops-at.ensures in
+    let end = c.pass_nops-at.result in
     record {
-      inside = k.1;
-      higher = omega (arith, e.base);
-      below = e.below ∙ inv.below;
-      same = same_chain g.C.Canvas.can c.args.canvas.now c.loop-at.canvas c.turn.new.canvas inv.same e.same;
-      met = e.met;
-      ahead = (a.0, a.1, a.2, rw e.behind x.left);
+      inside = e.inside;
+      higher = rw e.stack inv.higher;
+      below = ap (take f.base) e.stack ∙ inv.below;
+      same = inv.same;
+      met = rw e.met inv.met;
+      ahead = (a.0, a.1, a.2, ahead_behind c.one_spelling.ensures set (scope_in f) (acts_in f a.0) c.loop-at.font bytes from at end e.further e.inside e.nops a.3);
       counted = λ cs l.
           let q = inv.counted cs l in
-          let n = lexed_next c.one_spelling.ensures c.args.bytes.now (first_of f.home) c.loop-at.at (c.loop-at.at + 1) (view c.in-Some.cmd) q.0 k.0 k.1 k.2 q.1 in
-          (n.1, n.5, rw e.behind (count_on (runs f.fonts.now f.nest) (select f.fonts.now (scope_in f)) c.loop-at.font q.0 n.1 n.0 (view c.in-Some.cmd) c.loop-at.self.steps c.turn.new.self.steps (c.args.self.now.steps + count_in f cs) n.2 n.3 q.2 e.steps));
+          let n = counted_behind c.one_spelling.ensures (runs set f.nest) (select set (scope_in f)) c.loop-at.font bytes from at end e.further e.inside e.nops q.0 q.1 in
+          (n.0, n.1, omega (arith, q.2, n.2, e.steps));
       goes = λ cs l.
-          more_room (Took (HasGlyph c.args.frame.now.grid c.args.frame.now.fonts.now) g.C.Canvas.takes) (took_both (HasGlyph c.args.frame.now.grid c.args.frame.now.fonts.now) g.C.Canvas.takes g.met.C.Canvas.chains) c.one_spelling.ensures (meaning_in f) (start_in f.fonts.now (program_in f cs) c.args.start) cs c.args.bytes.now (first_of f.home) c.loop-at.at (c.loop-at.at + 1) (view c.in-Some.cmd)
-          c.args.canvas.now c.loop-at.canvas c.turn.new.canvas (open_at f.base c.loop-at.self.saved.items) (open_at f.base c.turn.new.self.saved.items)
-          (record { place = c.loop-at.pos; font = c.loop-at.font }) (record { place = c.turn.new.pos; font = c.turn.new.font })
-          k.0 k.1 k.2 (inv.goes cs l).0 e.ok (PacketFinds f.grid f.fonts.now f.nest) f.base (inv.goes cs l).1 e.room;
+          rw e.stack
+          (goes_behind (Took (HasGlyph f.grid set) g.C.Canvas.takes) (took_both (HasGlyph f.grid set) g.C.Canvas.takes g.met.C.Canvas.chains) c.one_spelling.ensures (meaning_in f) (start_in set (program_in f cs) c.args.start) cs bytes from at end c.args.canvas.now c.loop-at.canvas (open_at f.base c.loop-at.self.saved.items) (record { place = c.loop-at.pos; font = c.loop-at.font })
+          (g.met.C.Canvas.starts c.loop-at.canvas, tt) e.further e.inside e.nops (PacketFinds f.grid set f.nest) f.base (inv.goes cs l));
     }
 
 pub frame-loop-at-preserved : goal.frame-loop-at-preserved
@@ -110,17 +114,17 @@ frame-loop-at-preserved g t c =
       inside = k.1;
       higher = omega (arith, e.base);
       below = e.below ∙ inv.below;
-      same = same_chain g.C.Canvas.can c.args.canvas.now c.loop-at.canvas c.turn-in-Ok-next_cmd.new.canvas inv.same e.same;
+      same = same_chain g.C.Canvas.can c.args.canvas.now c.loop-at.canvas c.turn.new.canvas inv.same e.same;
       met = e.met;
       ahead = (a.0, a.1, a.2, rw e.behind x.left);
       counted = λ cs l.
           let q = inv.counted cs l in
           let n = lexed_next c.one_spelling.ensures c.args.bytes.now (first_of f.home) c.loop-at.at c.in-Ok-next_cmd.end (view c.in-Ok-next_cmd.cmd) q.0 k.0 k.1 k.2 q.1 in
-          (n.1, n.5, rw e.behind (count_on (runs f.fonts.now f.nest) (select f.fonts.now (scope_in f)) c.loop-at.font q.0 n.1 n.0 (view c.in-Ok-next_cmd.cmd) c.loop-at.self.steps c.turn-in-Ok-next_cmd.new.self.steps (c.args.self.now.steps + count_in f cs) n.2 n.3 q.2 e.steps));
+          (n.1, n.5, rw e.behind (count_on (runs f.fonts.now f.nest) (select f.fonts.now (scope_in f)) c.loop-at.font q.0 n.1 n.0 (view c.in-Ok-next_cmd.cmd) c.loop-at.self.steps c.turn.new.self.steps (c.args.self.now.steps + count_in f cs) n.2 n.3 q.2 e.steps));
       goes = λ cs l.
           more_room (Took (HasGlyph c.args.frame.now.grid c.args.frame.now.fonts.now) g.C.Canvas.takes) (took_both (HasGlyph c.args.frame.now.grid c.args.frame.now.fonts.now) g.C.Canvas.takes g.met.C.Canvas.chains) c.one_spelling.ensures (meaning_in f) (start_in f.fonts.now (program_in f cs) c.args.start) cs c.args.bytes.now (first_of f.home) c.loop-at.at c.in-Ok-next_cmd.end (view c.in-Ok-next_cmd.cmd)
-          c.args.canvas.now c.loop-at.canvas c.turn-in-Ok-next_cmd.new.canvas (open_at f.base c.loop-at.self.saved.items) (open_at f.base c.turn-in-Ok-next_cmd.new.self.saved.items)
-          (record { place = c.loop-at.pos; font = c.loop-at.font }) (record { place = c.turn-in-Ok-next_cmd.new.pos; font = c.turn-in-Ok-next_cmd.new.font })
+          c.args.canvas.now c.loop-at.canvas c.turn.new.canvas (open_at f.base c.loop-at.self.saved.items) (open_at f.base c.turn.new.self.saved.items)
+          (record { place = c.loop-at.pos; font = c.loop-at.font }) (record { place = c.turn.new.pos; font = c.turn.new.font })
           k.0 k.1 k.2 (inv.goes cs l).0 e.ok (PacketFinds f.grid f.fonts.now f.nest) f.base (inv.goes cs l).1 e.room;
     }
 
@@ -129,19 +133,6 @@ frame-unreachable-requires g t c =
     let a = c.loop-at.invariant.ahead in
     no_fault c.args.bytes.now (first_of c.args.frame.now.home) c.loop-at.at a.3.rest c.loop-at-test.true c.in-Err-next_cmd.ensures.none a.3.lexed
 
-pub frame-returns-in_err-turn-clause-stops : goal.frame-returns-in_err-turn-clause-stops
-frame-returns-in_err-turn-clause-stops g t c = λ cs l.
-    let f = c.args.frame.now in
-    let k = c.in-Some.ensures in
-    let go = (c.loop-at.invariant.goes cs l).0 in
-    let n = lexed_next c.one_spelling.ensures c.args.bytes.now (first_of f.home) c.loop-at.at (c.loop-at.at + 1) (view c.in-Some.cmd) go.rest k.0 k.1 k.2 go.lexed in
-    let here : State = record { place = c.loop-at.pos; font = c.loop-at.font } in
-    let p = err_from_is_err_and c.from_residual.result c.from_residual.ensures.1 in
-    rw (p.1, p.2)
-    (stop_on g.C.Canvas.takes g.C.Canvas.refuses g.met.C.Canvas.chains g.met.C.Canvas.refused_later c.args.canvas.now c.loop-at.canvas c.turn.new.canvas go.taken go.took.0 _ _
-    (covers_next (Took (HasGlyph c.args.frame.now.grid c.args.frame.now.fonts.now) g.C.Canvas.takes) (meaning_in f) (start_in f.fonts.now (program_in f cs) c.args.start) cs (drop c.loop-at.at c.args.bytes.now) (first_of f.home + c.loop-at.at) c.args.canvas.now c.loop-at.canvas (open_at f.base c.loop-at.self.saved.items) here go n.0 n.1 (view c.in-Some.cmd) n.2 n.3)
-    _ c.in_err-turn.ensures.stops)
-
 pub frame-returns-in_err-turn-in-Ok-next_cmd-clause-stops : goal.frame-returns-in_err-turn-in-Ok-next_cmd-clause-stops
 frame-returns-in_err-turn-in-Ok-next_cmd-clause-stops g t c = λ cs l.
     let f = c.args.frame.now in
@@ -149,24 +140,11 @@ frame-returns-in_err-turn-in-Ok-next_cmd-clause-stops g t c = λ cs l.
     let go = (c.loop-at.invariant.goes cs l).0 in
     let n = lexed_next c.one_spelling.ensures c.args.bytes.now (first_of f.home) c.loop-at.at c.in-Ok-next_cmd.end (view c.in-Ok-next_cmd.cmd) go.rest k.0 k.1 k.2 go.lexed in
     let here : State = record { place = c.loop-at.pos; font = c.loop-at.font } in
-    let p = err_from_is_err_and c.from_residual-in_err-turn-in-Ok-next_cmd.result c.from_residual-in_err-turn-in-Ok-next_cmd.ensures.1 in
-    rw (p.1, p.2)
-    (stop_on g.C.Canvas.takes g.C.Canvas.refuses g.met.C.Canvas.chains g.met.C.Canvas.refused_later c.args.canvas.now c.loop-at.canvas c.turn-in-Ok-next_cmd.new.canvas go.taken go.took.0 _ _
-    (covers_next (Took (HasGlyph c.args.frame.now.grid c.args.frame.now.fonts.now) g.C.Canvas.takes) (meaning_in f) (start_in f.fonts.now (program_in f cs) c.args.start) cs (drop c.loop-at.at c.args.bytes.now) (first_of f.home + c.loop-at.at) c.args.canvas.now c.loop-at.canvas (open_at f.base c.loop-at.self.saved.items) here go n.0 n.1 (view c.in-Ok-next_cmd.cmd) n.2 n.3)
-    _ c.in_err-turn-in-Ok-next_cmd.ensures.stops)
-
-pub frame-returns-in_err-turn-clause-cause : goal.frame-returns-in_err-turn-clause-cause
-frame-returns-in_err-turn-clause-cause g t c = λ cs l.
-    let f = c.args.frame.now in
-    let k = c.in-Some.ensures in
-    let go = (c.loop-at.invariant.goes cs l).0 in
-    let n = lexed_next c.one_spelling.ensures c.args.bytes.now (first_of f.home) c.loop-at.at (c.loop-at.at + 1) (view c.in-Some.cmd) go.rest k.0 k.1 k.2 go.lexed in
-    let here : State = record { place = c.loop-at.pos; font = c.loop-at.font } in
     let p = err_from_is_err_and c.from_residual.result c.from_residual.ensures.1 in
     rw (p.1, p.2)
-    (cause_next (Took (HasGlyph c.args.frame.now.grid c.args.frame.now.fonts.now) g.C.Canvas.takes) (meaning_in f) (start_in f.fonts.now (program_in f cs) c.args.start) cs (drop c.loop-at.at c.args.bytes.now) (first_of f.home + c.loop-at.at) c.args.canvas.now c.loop-at.canvas (open_at f.base c.loop-at.self.saved.items) here go n.0 n.1 (view c.in-Some.cmd) n.2 n.3 n.4
-    (inside f.grid f.fonts.now f.nest) (λ at. spot_of f.home at) (first_of f.home + length c.args.bytes.now) f.base _
-    (rw (sym c.spot-spot.ensures) c.in_err-turn.ensures.cause))
+    (stop_on g.C.Canvas.takes g.C.Canvas.refuses g.met.C.Canvas.chains g.met.C.Canvas.refused_later c.args.canvas.now c.loop-at.canvas c.turn.new.canvas go.taken go.took.0 _ _
+    (covers_next (Took (HasGlyph c.args.frame.now.grid c.args.frame.now.fonts.now) g.C.Canvas.takes) (meaning_in f) (start_in f.fonts.now (program_in f cs) c.args.start) cs (drop c.loop-at.at c.args.bytes.now) (first_of f.home + c.loop-at.at) c.args.canvas.now c.loop-at.canvas (open_at f.base c.loop-at.self.saved.items) here go n.0 n.1 (view c.in-Ok-next_cmd.cmd) n.2 n.3)
+    _ c.in_err-turn-in-Ok-next_cmd.ensures.stops)
 
 pub frame-returns-in_err-turn-in-Ok-next_cmd-clause-cause : goal.frame-returns-in_err-turn-in-Ok-next_cmd-clause-cause
 frame-returns-in_err-turn-in-Ok-next_cmd-clause-cause g t c = λ cs l.
@@ -175,21 +153,11 @@ frame-returns-in_err-turn-in-Ok-next_cmd-clause-cause g t c = λ cs l.
     let go = (c.loop-at.invariant.goes cs l).0 in
     let n = lexed_next c.one_spelling.ensures c.args.bytes.now (first_of f.home) c.loop-at.at c.in-Ok-next_cmd.end (view c.in-Ok-next_cmd.cmd) go.rest k.0 k.1 k.2 go.lexed in
     let here : State = record { place = c.loop-at.pos; font = c.loop-at.font } in
-    let p = err_from_is_err_and c.from_residual-in_err-turn-in-Ok-next_cmd.result c.from_residual-in_err-turn-in-Ok-next_cmd.ensures.1 in
+    let p = err_from_is_err_and c.from_residual.result c.from_residual.ensures.1 in
     rw (p.1, p.2)
     (cause_next (Took (HasGlyph c.args.frame.now.grid c.args.frame.now.fonts.now) g.C.Canvas.takes) (meaning_in f) (start_in f.fonts.now (program_in f cs) c.args.start) cs (drop c.loop-at.at c.args.bytes.now) (first_of f.home + c.loop-at.at) c.args.canvas.now c.loop-at.canvas (open_at f.base c.loop-at.self.saved.items) here go n.0 n.1 (view c.in-Ok-next_cmd.cmd) n.2 n.3 n.4
     (inside f.grid f.fonts.now f.nest) (λ at. spot_of f.home at) (first_of f.home + length c.args.bytes.now) f.base _
-    (rw (sym c.spot-spot-in-Ok-next_cmd.ensures) c.in_err-turn-in-Ok-next_cmd.ensures.cause))
-
-pub frame-returns-in_err-turn-clause-many : goal.frame-returns-in_err-turn-clause-many
-frame-returns-in_err-turn-clause-many g t c = λ cs l.
-    let f = c.args.frame.now in
-    let k = c.in-Some.ensures in
-    let q = c.loop-at.invariant.counted cs l in
-    let n = lexed_next c.one_spelling.ensures c.args.bytes.now (first_of f.home) c.loop-at.at (c.loop-at.at + 1) (view c.in-Some.cmd) q.0 k.0 k.1 k.2 q.1 in
-    let p = err_from_is_err_and c.from_residual.result c.from_residual.ensures.1 in
-    let part = count_part (runs f.fonts.now f.nest) (select f.fonts.now (scope_in f)) c.loop-at.font q.0 n.1 n.0 (view c.in-Some.cmd) c.loop-at.self.steps (c.args.self.now.steps + count_in f cs) n.2 n.3 q.2 in
-    rw (p.1, p.2) (many_on _ _ _ part c.in_err-turn.ensures.many)
+    (rw (sym c.spot-spot.ensures) c.in_err-turn-in-Ok-next_cmd.ensures.cause))
 
 pub frame-returns-in_err-turn-in-Ok-next_cmd-clause-many : goal.frame-returns-in_err-turn-in-Ok-next_cmd-clause-many
 frame-returns-in_err-turn-in-Ok-next_cmd-clause-many g t c = λ cs l.
@@ -197,7 +165,7 @@ frame-returns-in_err-turn-in-Ok-next_cmd-clause-many g t c = λ cs l.
     let k = c.in-Ok-next_cmd.ensures.found in
     let q = c.loop-at.invariant.counted cs l in
     let n = lexed_next c.one_spelling.ensures c.args.bytes.now (first_of f.home) c.loop-at.at c.in-Ok-next_cmd.end (view c.in-Ok-next_cmd.cmd) q.0 k.0 k.1 k.2 q.1 in
-    let p = err_from_is_err_and c.from_residual-in_err-turn-in-Ok-next_cmd.result c.from_residual-in_err-turn-in-Ok-next_cmd.ensures.1 in
+    let p = err_from_is_err_and c.from_residual.result c.from_residual.ensures.1 in
     let part = count_part (runs f.fonts.now f.nest) (select f.fonts.now (scope_in f)) c.loop-at.font q.0 n.1 n.0 (view c.in-Ok-next_cmd.cmd) c.loop-at.self.steps (c.args.self.now.steps + count_in f cs) n.2 n.3 q.2 in
     rw (p.1, p.2) (many_on _ _ _ part c.in_err-turn-in-Ok-next_cmd.ensures.many)
 
@@ -250,7 +218,7 @@ pub frame-set-requires-clause-ready : goal.frame-set-requires-clause-ready
 frame-set-requires-clause-ready g t c =
     let f = c.args.frame.now in
     let bytes = c.args.bytes.now in
-    let q = c.in-Some-quick.ensures in
+    let q = c.in-Some.ensures in
     let k = set_single bytes c.loop-at.at c.loop-at-test.true q.small in
     let cmd = Set (pos (byte_at bytes c.loop-at.at)) in
     let os = open_at f.base c.loop-at.self.saved.items in
@@ -276,7 +244,7 @@ pub frame-returns-in-Err-clause-stops : goal.frame-returns-in-Err-clause-stops
 frame-returns-in-Err-clause-stops g t c = λ cs l.
     let f = c.args.frame.now in
     let bytes = c.args.bytes.now in
-    let q = c.in-Some-quick.ensures in
+    let q = c.in-Some.ensures in
     let k = set_single bytes c.loop-at.at c.loop-at-test.true q.small in
     let cmd = Set (pos (byte_at bytes c.loop-at.at)) in
     let os = open_at f.base c.loop-at.self.saved.items in
@@ -293,7 +261,7 @@ pub frame-returns-in-Err-clause-cause : goal.frame-returns-in-Err-clause-cause
 frame-returns-in-Err-clause-cause g t c = λ cs l.
     let f = c.args.frame.now in
     let bytes = c.args.bytes.now in
-    let q = c.in-Some-quick.ensures in
+    let q = c.in-Some.ensures in
     let k = set_single bytes c.loop-at.at c.loop-at-test.true q.small in
     let cmd = Set (pos (byte_at bytes c.loop-at.at)) in
     let os = open_at f.base c.loop-at.self.saved.items in
@@ -303,11 +271,11 @@ frame-returns-in-Err-clause-cause g t c = λ cs l.
     cause_next (Took (HasGlyph f.grid f.fonts.now) g.C.Canvas.takes) (meaning_in f) (start_in f.fonts.now (program_in f cs) c.args.start) cs (drop c.loop-at.at bytes) (first_of f.home + c.loop-at.at) c.args.canvas.now c.loop-at.canvas os here go n.0 n.1 cmd n.2 n.3 n.4
     (inside f.grid f.fonts.now f.nest) (λ at. spot_of f.home at) (first_of f.home + length bytes) f.base (fault.Canvas c.in-Err.f) (inl tt)
 
-pub frame-loop-at-preserved-in-Some-quick : goal.frame-loop-at-preserved-in-Some-quick
-frame-loop-at-preserved-in-Some-quick g t c =
+pub frame-loop-at-preserved-in-Some : goal.frame-loop-at-preserved-in-Some
+frame-loop-at-preserved-in-Some g t c =
     let f = c.args.frame.now in
     let bytes = c.args.bytes.now in
-    let q = c.in-Some-quick.ensures in
+    let q = c.in-Some.ensures in
     let k = set_single bytes c.loop-at.at c.loop-at-test.true q.small in
     let cmd = Set (pos (byte_at bytes c.loop-at.at)) in
     let os = open_at f.base c.loop-at.self.saved.items in
@@ -446,55 +414,6 @@ turn-returns-in-Some-clause-ok g t c =
 
 pub frame-turn-requires : goal.frame-turn-requires
 frame-turn-requires g t c κs within =
-    let f = c.args.frame.now in
-    let a = c.loop-at.invariant.ahead in
-    let k = c.in-Some.ensures in
-    let x = ahead_next c.one_spelling.ensures f.fonts.now (scope_in f) (acts_in f a.0) c.loop-at.font c.args.bytes.now (first_of f.home) c.loop-at.at (c.loop-at.at + 1) (view c.in-Some.cmd) k.0 k.1 k.2 a.3 in
-    let go = (c.loop-at.invariant.goes a.0 a.1).0 in
-    let n = lexed_next c.one_spelling.ensures c.args.bytes.now (first_of f.home) c.loop-at.at (c.loop-at.at + 1) (view c.in-Some.cmd) go.rest k.0 k.1 k.2 go.lexed in
-    let here : State = record { place = c.loop-at.pos; font = c.loop-at.font } in
-    let os = open_at f.base c.loop-at.self.saved.items in
-    let few = acts_of_command (scope_in f) x.sel (view c.in-Some.cmd) in
-    let size = special_in_range c.args.bytes.now c.loop-at.at (c.loop-at.at + 1) (view c.in-Some.cmd) k.0 k.2 in (
-      search rules,
-      (
-        within.0,
-        (
-          within.1,
-          (
-            c.requires.given,
-            (
-              omega (arith, c.loop-at.invariant.higher),
-              (
-                font_given f.fonts.now a.3.sel c.loop-at.font a.3.same,
-                (
-                  x.inner,
-                  (
-                    omega (arith, size, c.requires.short),
-                    (
-                      record {
-                        sel = x.sel;
-                        same = x.same;
-                        covers = x.covers;
-                        can_take =
-                            can_on g.C.Canvas.can c.loop-at.canvas (IsPainted f.grid f.fonts.now few) (IsPainted f.grid f.fonts.now (acts_in f a.0)) (painted_more f.grid f.fonts.now few (acts_in f a.0) x.wider) go.taken
-                            (turn_marks (turned (meaning_in f) (view c.in-Some.cmd) os here)) (marks_alone (marks_in f a.0 c.args.start))
-                            (covers_next (Took (HasGlyph c.args.frame.now.grid c.args.frame.now.fonts.now) g.C.Canvas.takes) (meaning_in f) (start_in f.fonts.now (program_in f a.0) c.args.start) a.0 (drop c.loop-at.at c.args.bytes.now) (first_of f.home + c.loop-at.at) c.args.canvas.now c.loop-at.canvas os here go n.0 n.1 (view c.in-Some.cmd) n.2 n.3)
-                            (can_later g.C.Canvas.can (IsPainted f.grid f.fonts.now (acts_in f a.0)) c.args.canvas.now c.loop-at.canvas (marks_alone (marks_in f a.0 c.args.start)) c.loop-at.invariant.same a.2.1);
-                      },
-                      c.loop-at.invariant.met,
-                    ),
-                  ),
-                ),
-              ),
-            ),
-          ),
-        ),
-      ),
-    )
-
-pub frame-turn-requires-in-Ok-next_cmd : goal.frame-turn-requires-in-Ok-next_cmd
-frame-turn-requires-in-Ok-next_cmd g t c κs within =
     let f = c.args.frame.now in
     let a = c.loop-at.invariant.ahead in
     let k = c.in-Ok-next_cmd.ensures.found in
