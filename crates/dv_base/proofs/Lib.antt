@@ -4,3 +4,4 @@ pub mod Divided
 pub mod Products
 pub mod Taken
 mod Nearness
+pub mod Excess

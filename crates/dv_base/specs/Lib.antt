@@ -19,3 +19,4 @@ pub mod RoundingLaws
 pub mod Scale
 pub mod ScaleLaws
 pub mod Brought
+pub mod Excess

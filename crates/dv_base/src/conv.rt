@@ -1,7 +1,8 @@
 //! From units of a DVI file to pixels.
-ghost use Rattle.std.specs.Prelude.{◌≡◌, ◌↔◌, ◌*◌, ◌+◌, ◌-◌, ◌/◌, ◌^◌, ◌<◌, ◌≤◌, pos, ◌-ℤ◌, ◌<ℤ◌, ◌≤ℤ◌, unsigned_abs, IsSome, IfSome, IsTrue, MatchOption};
+ghost use Rattle.std.specs.Prelude.{◌≡◌, ◌↔◌, ◌*◌, ◌+◌, ◌-◌, ◌/◌, ◌^◌, ◌<◌, ◌≤◌, pos, ◌*ℤ◌, ◌-ℤ◌, ◌<ℤ◌, ◌≤ℤ◌, unsigned_abs, IsSome, IfSome, IsTrue, MatchOption};
 ghost use Rattle.dv_base.specs.Rounding.{IsNearest, IsCeiling, IsFine, half_up, rounded, ceiling};
 ghost use Rattle.dv_base.specs.Brought.{IsWay, brought};
+ghost use Rattle.dv_base.specs.Excess.{IsReach, Tells, excess};
 ghost use Rattle.dv_base.specs.Lowest.{gcd};
 ghost use Rattle.dv_base.specs.RoundingLaws.{rounded-nearest};
 ghost use Rattle.dv_base.specs.UnitPixels.{pixels_of_one, unit_length, IsSameNumber, IsUsable};
@@ -88,6 +89,23 @@ fn way_to(above: u128, below: u64, least: u64, most: u64) -> Option<i64>
         return Some(0);
     }
     if above < high + below { Some(1) } else { None }
+}
+
+/// An excess that isn't told: it is too large, so that no number of pixels with it is near enough.
+const UNTOLD: i64 = 1 << 61;
+
+/// The most that a reach may be: far below what isn't told.
+const MOST_REACH: u128 = (1 << 59) - 1;
+
+/// A number of units or pixels, times the top or the bottom of a fraction.
+#[inline(always)]
+fn product(number: i64, by: u128) -> i128
+    requires number { unsigned_abs number < 2 ^ 42 }
+    requires by { by < 2 ^ 60 }
+    ensures value { result ≡ number *ℤ pos by }
+    ensures bound { unsigned_abs result < 2 ^ 102 }
+{
+    i128::from(number) * by as i128
 }
 
 impl Conv {
@@ -187,6 +205,32 @@ impl Conv {
     {
         let exact = self.round(x);
         n.clamp(exact - drift, exact + drift)
+    }
+
+    /// How far `n` pixels are beyond the length `x`, in parts of a pixel of which the fraction's bottom are one: sums of lengths and of
+    /// pixels have the sum of their excesses. Where that is 2^60 or more in size, it isn't told, and the answer is 2^61.
+    #[inline(always)]
+    pub fn excess(&self, x: i64, n: i64) -> i64
+        requires x { unsigned_abs x < 2 ^ 40 }
+        requires n { unsigned_abs n < 2 ^ 42 }
+        ensures { Tells result (excess self.now x n) }
+    {
+        let beyond = product(n, self.bottom) - product(x, self.top);
+        if beyond.unsigned_abs() < 1 << 60 {
+            beyond as i64
+        } else {
+            UNTOLD
+        }
+    }
+
+    /// An excess in either direction with which pixels are at most `drift` from the rounded length.
+    pub fn reach(&self, drift: i64) -> i64
+        requires least { pos 0 ≤ℤ drift }
+        requires most { drift ≤ℤ pos 1000 }
+        ensures { IsReach self.now drift result }
+    {
+        let double = u128::from(2 * drift.unsigned_abs() + 1) * self.bottom;
+        ((double - 1) / 2).min(MOST_REACH) as i64
     }
 
     /// The least whole number of pixels that is not below the length `x`.

@@ -49,6 +49,18 @@ fn judges_nearness(rt: HostRuntime) {
         assert_eq!(rt; conv.near(x, n, 1), pixels, "{x} {n}");
     }
     assert_eq!(rt; conv.near(0, -1, 0), 0);
+    // 625 pixels are 9867264 units
+    for (x, n, excess) in [
+        (327_680, 21, 2_412_544),
+        (327_680, 20, -7_454_720),
+        (-327_680, -21, -2_412_544),
+        (0, 1 << 41, 1 << 61),
+        (0, -(1 << 41), 1 << 61),
+    ] {
+        assert_eq!(rt; conv.excess(x, n), excess, "{x} {n}");
+    }
+    assert_eq!(rt; conv.reach(0), 4_933_631);
+    assert_eq!(rt; conv.reach(1), 14_800_895);
 }
 
 #[test]
