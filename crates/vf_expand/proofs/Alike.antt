@@ -1,5 +1,5 @@
 -- Two sets that have their fonts from the same files: a page that has no fault with the one has none with the other.
-use Rattle.std.proofs.Common.{◌≡◌, ◌<◌, ◌+◌, ◌^◌, ◌⊎◌, inl, inr, ℕ, zero, suc, ℤ, pos, negsuc, ◌+ℤ◌, ◌/◌, Bool, true, false, List, [], ◌∷◌, ◌++◌, length, Option, Some, None, refl, sym, ap, subst, ◌∙◌, append_assoc, arith}
+use Rattle.std.proofs.Common.{◌≡◌, ◌<◌, ◌+◌, ◌⊎◌, inl, inr, ℕ, zero, suc, ℤ, pos, negsuc, ◌+ℤ◌, ◌/◌, Bool, true, false, List, [], ◌∷◌, ◌++◌, length, Option, Some, None, refl, sym, ap, subst, ◌∙◌, arith}
 use Rattle.std.specs.Prelude.{if◌then◌else◌, ◌&&◌}
 use Rattle.std.proofs.lemmas.List.{append-nil}
 use Rattle.dv_base.specs.Shelf.{Contents}
@@ -20,7 +20,6 @@ use Rattle.font_set.specs.Frames.{FontAct, acts_from, acts_of, acts_of_command, 
 use Rattle.font_set.specs.LoadFaults.{selected_after}
 use Rattle.font_set.specs.Covers.{Covers, IsGood, IsKnownAt, IsShown}
 use Rattle.font_set.specs.Count.{count, count_by, count_of_packet, font_behind, runs, weight}
-use Rattle.font_set.specs.Tree.{tree_of}
 use Rattle.font_set.proofs.Alike.{program_twin, size_twin, state_twin, width_twin}
 use Rattle.font_set.proofs.Growing.{shown_loaded}
 use Rattle.font_set.proofs.Later.{acts_split, behind_first, packet_loaded}
@@ -29,13 +28,13 @@ use Rattle.vf_expand.specs.Grid.{Grid, State}
 use Rattle.vf_expand.specs.Meaning.{Meaning, Showing}
 use Rattle.vf_expand.specs.Marks.{Outcome, at_place, down_by, in_font, is_size, past_char, prepend, past_rule, put_char, restored, right_by, rule_marks, set_char, special_at, step, where_sized}
 use Rattle.vf_expand.specs.Turn.{Standing, Turn, left_behind, left_by, left_from, of_step, turned}
-use Rattle.vf_expand.specs.Pages.{amount_of, boxed, chars, first_there, frame_marks, glyph_at, inner, meaning, run_packet, sense, shown_in, space_of, start_in}
-use Rattle.vf_expand.specs.Causes.{InPacket, IsCauseBy, IsCharCause, IsDeep, IsFree, IsLarge, IsLeft, IsNested, IsOwnCause, IsTurnCause, IsUnder, Moment, Passes, inside}
+use Rattle.vf_expand.specs.Pages.{amount_of, boxed, chars, first_there, frame_marks, glyph_at, inner, meaning, sense, shown_in, space_of, start_in}
+use Rattle.vf_expand.specs.Causes.{InPacket, IsCauseBy, IsCharCause, IsFree, IsLarge, IsLeft, IsNested, IsOwnCause, IsTurnCause, Moment, Passes, inside}
 use Rattle.vf_expand.specs.Shallow.{AllFindRoom, CharFinds, FindsRoom, PacketFinds}
-use Rattle.vf_expand.specs.Page.{IsPageCause, IsShallowPage, page_acts, page_count, page_marks, pages_count}
+use Rattle.vf_expand.specs.Page.{IsPageCause, IsShallowPage, page_acts, page_count, page_marks}
 use Rattle.vf_expand.specs.declared.fault.WalkFault.{WalkFault}
 use Rattle.vf_expand.specs.declared.fault.WalkFault.TheVariants as fault
-use Rattle.vf_expand.proofs.Chars.{Covered, CoveredChar, covered, covered_char, packet_covers}
+use Rattle.vf_expand.proofs.Chars.{covered, covered_char, packet_covers}
 use Rattle.vf_expand.proofs.Covering.{behind_is, covers_left, covers_right}
 use Rattle.vf_expand.proofs.Faultless.{nested_none, no_marks, packet_marks, passed_walk, put_walk, set_walk, there_is, under_walk}
 use Rattle.vf_expand.proofs.Walk.{go_on, walk, walk_page, walk_turn}

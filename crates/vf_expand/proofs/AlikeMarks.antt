@@ -6,7 +6,6 @@ use Rattle.dvi_ops.specs.Command.{Command, Definition}
 use Rattle.dvi_ops.specs.Command.Command.{Bop, Down, Eop, Fnt, FntDef, Nop, Pop, Post, PostPost, Pre, Push, Put, PutRule, Right, Set, SetRule, W, W0, X, X0, Xxx, Y, Y0, Z, Z0}
 use Rattle.dvi_ops.specs.Placed.{Placed}
 use Rattle.positions.specs.Mark.{Mark}
-use Rattle.positions.specs.Mark.Mark.{OfGlyph, OfRule, OfSpecial}
 use Rattle.positions.specs.Place.{Place, origin}
 use Rattle.font_set.specs.Key.{Key}
 use Rattle.font_set.specs.Fonts as sets
@@ -15,14 +14,14 @@ use Rattle.font_set.specs.Alike.{Alike, OneFontOf, Twin}
 use Rattle.font_set.specs.Programs.{Named, Scope, Program, id_of, key_in, key_of_first, page_program, program_at, select}
 use Rattle.font_set.specs.Frames.{selected}
 use Rattle.font_set.proofs.Alike.{program_twin, state_twin, width_twin}
-use Rattle.vf_expand.specs.Alike.{MarkAlike, MarksAlike}
+use Rattle.vf_expand.specs.Alike.{MarksAlike}
 use Rattle.vf_expand.specs.Grid.{Grid, State}
-use Rattle.vf_expand.specs.Meaning.{Meaning, Showing}
+use Rattle.vf_expand.specs.Meaning.{Showing}
 use Rattle.vf_expand.specs.Marks.{Outcome, at_place, down_by, in_font, is_size, past_char, past_rule, prepend, put_char, restored, right_by, rule_at, rule_marks, set_char, special_at, step, where_sized}
 use Rattle.vf_expand.specs.Turn.{Turn, of_step, turned}
-use Rattle.vf_expand.specs.Pages.{amount_of, boxed, chars, first_there, frame_marks, glyph_at, glyph_record, inner, run_packet, shown, shown_in, space_of, start_in, where_font}
+use Rattle.vf_expand.specs.Pages.{amount_of, boxed, chars, first_there, frame_marks, glyph_at, glyph_record, inner, shown, shown_in, space_of, start_in, where_font}
 use Rattle.vf_expand.specs.Page.{page_marks}
-use Rattle.vf_expand.proofs.Alike.{Known, Same, Widths, at_key, char_none, char_wide, inj, known_by, ma, mb, same_code, start_same, turn_at, widths}
+use Rattle.vf_expand.proofs.Alike.{Known, Same, Widths, at_key, char_none, char_wide, inj, ma, mb, start_same, turn_at, widths}
 use Rattle.vf_expand.proofs.Walk.{go_on, walk, walk_page, walk_turn}
 
 -- ---- marks

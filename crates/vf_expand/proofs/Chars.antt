@@ -1,7 +1,6 @@
 -- Characters that are covered.
-use Rattle.std.proofs.Common.{◌≡◌, ◌≤◌, ◌<◌, ◌+◌, ℕ, zero, suc, ℤ, pos, negsuc, List, [], ◌∷◌, ◌++◌, length, Option, Some, None, Bool, true, false, refl, sym, ap, subst, ◌∙◌, arith, nat_lt, get_or}
-use Rattle.std.specs.Prelude.{if◌then◌else◌, slice_get, position}
-use Rattle.std.proofs.lemmas.List.Quantifiers.{position-Some}
+use Rattle.std.proofs.Common.{◌≡◌, ◌<◌, ℕ, zero, suc, ℤ, pos, negsuc, List, [], ◌∷◌, length, Option, Some, None, Bool, true, false, refl, sym, ap, subst, ◌∙◌, arith, nat_lt}
+use Rattle.std.specs.Prelude.{if◌then◌else◌, position}
 use Rattle.std.proofs.lemmas.Bool.Decides.{nat_tests}
 use Rattle.dvi_ops.specs.Placed.{Placed, Lexes}
 use Rattle.dvi_ops.specs.Reading.{commands_in}
@@ -12,18 +11,15 @@ use Rattle.font_set.specs.Key.{Key, same_key}
 use Rattle.font_set.specs.Fonts.{State, Entry, FontSet, place_of, size_at, state_at, width_at, packet_at, packet_in, width_of, IsVirtual}
 use Rattle.font_set.specs.Programs as p
 use Rattle.font_set.specs.Programs.{Named, Program, Scope, packet_program, program_at, locals_in, locals_at, lexed, id_of, head_of}
-use Rattle.font_set.specs.Acts.{Act, Every, IsRun}
-use Rattle.font_set.specs.Acts.Act.{Selects, Runs, Wrong}
+use Rattle.font_set.specs.Acts.{IsRun}
+use Rattle.font_set.specs.Acts.Act.{Runs, Wrong}
 use Rattle.font_set.specs.Frames.{Char, FontAct, select_act, char_act, acts_with_first, acts_of, acts_of_packet, body, body_at}
 use Rattle.font_set.specs.Covers.{IsThere, IsShown, IsShownAt, IsGood, Covers}
-use Rattle.font_set.specs.Count.{runs, count, count_of_packet}
-use Rattle.vf_expand.specs.Grid as grid
+use Rattle.font_set.specs.Count.{runs, count}
 use Rattle.vf_expand.specs.Grid.{Grid}
-use Rattle.vf_expand.specs.Pages.{chars, glyph_record, glyph_at, inner, boxed, frame_marks, shown_in, run_packet, where_font, first_there}
+use Rattle.vf_expand.specs.Pages.{chars, glyph_record, glyph_at, inner, boxed, frame_marks, shown_in, where_font, first_there}
 use Rattle.vf_expand.specs.Marks.{Outcome}
-use Rattle.vf_expand.specs.Homes.{program_of, IsFont}
-use Rattle.vf_expand.specs.declared.home.Home.TheVariants as home
-use Rattle.std.proofs.Common.{◌⊎◌, inl, inr}
+use Rattle.vf_expand.specs.Homes.{IsFont}
 use Rattle.std.proofs.lemmas.List.{append-nil}
 use Rattle.dvi_ops.specs.Command.{Command}
 use Rattle.dvi_ops.specs.Command.Command.{Bop, Eop, Pre, Post, PostPost}

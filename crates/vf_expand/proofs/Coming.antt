@@ -5,7 +5,7 @@ use Rattle.font_set.specs.Fonts.{FontSet}
 use Rattle.vf_expand.specs.Grid as grid
 use Rattle.vf_expand.specs.Grid.{Grid}
 use Rattle.vf_expand.specs.Marks.{Outcome}
-use Rattle.vf_expand.specs.Takes.{MayCome, Nothing, AllCome, Took, Follows, TookPage, TookChar}
+use Rattle.vf_expand.specs.Takes.{Nothing, AllCome, Took, Follows, TookPage, TookChar}
 use Rattle.vf_expand.specs.Painted.{HasGlyph, AreComing}
 use Rattle.vf_expand.proofs.Stopping.{may_more}
 

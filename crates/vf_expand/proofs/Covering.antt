@@ -1,15 +1,15 @@
 -- Fonts that cover a frame cover what is left of it, and the packets that it runs.
-use Rattle.std.proofs.Common.{◌≡◌, ◌≤◌, ◌<◌, ◌+◌, ℕ, zero, suc, ℤ, List, [], ◌∷◌, ◌++◌, length, drop, slice_range, Option, Some, None, refl, sym, ap, subst, ◌∙◌, append_assoc, arith}
+use Rattle.std.proofs.Common.{◌≡◌, ◌≤◌, ◌<◌, ◌+◌, ℕ, zero, suc, List, [], ◌∷◌, ◌++◌, length, drop, slice_range, Option, Some, None, refl, sym, ap, subst, ◌∙◌, append_assoc}
 use Rattle.dvi_ops.specs.Command.{Command}
-use Rattle.dvi_ops.specs.Command.Command.{Set, Put, Fnt}
+use Rattle.dvi_ops.specs.Command.Command.{Fnt}
 use Rattle.dvi_ops.specs.Spelling.{Spell}
 use Rattle.dvi_ops.specs.Placed.{Placed, Lexes}
 use Rattle.dvi_ops.specs.Laws.{OneSpelling}
 use Rattle.font_set.specs.Key.{Key}
-use Rattle.font_set.specs.Fonts.{FontSet, place_of}
-use Rattle.font_set.specs.Programs.{Named, Scope, Program, key_in, select, id_of, key_of_first, first_font}
-use Rattle.font_set.specs.Acts.{Act, Every, IsRun, RunsAt, IsReached}
-use Rattle.font_set.specs.Acts.Act.{Selects, Runs, Wrong}
+use Rattle.font_set.specs.Fonts.{FontSet}
+use Rattle.font_set.specs.Programs.{Named, Scope, Program, select, id_of, key_of_first, first_font}
+use Rattle.font_set.specs.Acts.{Every, IsRun, RunsAt, IsReached}
+use Rattle.font_set.specs.Acts.Act.{Runs}
 use Rattle.font_set.specs.Frames.{Char, FontAct, select_act, acts_of_command, selected, acts_from, acts_with_first, acts_of, body}
 use Rattle.font_set.specs.Covers.{IsGood, Covers, IsSet}
 use Rattle.font_set.specs.Count.{font_behind}

@@ -1,5 +1,5 @@
 -- The marks of an expanded tree are those that the walk gives.
-use Rattle.std.proofs.Common.{◌≡◌, ℕ, zero, suc, ℤ, pos, negsuc, Bool, true, false, List, [], ◌∷◌, ◌++◌, Option, Some, None, refl, sym, ap, ◌∙◌}
+use Rattle.std.proofs.Common.{◌≡◌, ℕ, zero, suc, ℤ, pos, negsuc, Bool, true, false, List, [], ◌∷◌, Option, Some, None, refl, sym, ap, ◌∙◌}
 use Rattle.std.specs.Prelude.{◌&&◌, if◌then◌else◌}
 use Rattle.dvi_ops.specs.Command.{Command}
 use Rattle.dvi_ops.specs.Command.Command.{Set, Put, Fnt}
@@ -12,10 +12,10 @@ use Rattle.font_set.specs.Tree.Tree.{End, Then, Group}
 use Rattle.font_set.specs.Fonts.{State, FontSet, place_of, state_at, width_at}
 use Rattle.font_set.specs.Programs.{Named, Scope, Program, key_in, id_of, select, key_of_first, first_font, program_at}
 use Rattle.font_set.specs.Frames.{selected}
-use Rattle.font_set.specs.Expand.{Shape, Expanded, plain, in_font, glyph, boxed, grouped, shaped, set_in, node, selected_behind, expand_by, expand_tree, with_first, expand_frame, expand_packet, expand}
+use Rattle.font_set.specs.Expand.{Expanded, plain, in_font, glyph, boxed, grouped, shaped, set_in, node, selected_behind, expand_by, expand_tree, with_first, expand_frame, expand_packet, expand}
 use Rattle.vf_expand.specs.Grid as grid
 use Rattle.vf_expand.specs.Grid.{Grid}
-use Rattle.vf_expand.specs.Meaning.{Meaning, Showing}
+use Rattle.vf_expand.specs.Meaning.{Showing}
 use Rattle.vf_expand.specs.Marks as m
 use Rattle.vf_expand.specs.Marks.{Outcome, prepend, after, step, set_char, put_char, at_place, restored, marks, marks_of}
 use Rattle.vf_expand.specs.Pages as pages

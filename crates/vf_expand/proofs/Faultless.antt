@@ -1,5 +1,5 @@
 -- A page whose marks are defined has no fault of its own.
-use Rattle.std.proofs.Common.{◌≡◌, ◌<◌, ◌+◌, ◌^◌, ◌⊎◌, inl, inr, ℕ, zero, suc, ℤ, pos, negsuc, ◌+ℤ◌, Bool, true, false, List, [], ◌∷◌, ◌++◌, length, Option, Some, None, refl, sym, ap, subst, ◌∙◌, arith, unsigned_abs, nat_lt}
+use Rattle.std.proofs.Common.{◌≡◌, ◌+◌, ◌⊎◌, inl, inr, ℕ, zero, suc, ℤ, pos, ◌+ℤ◌, Bool, true, false, List, [], ◌∷◌, ◌++◌, length, Option, Some, None, refl, sym, ap, ◌∙◌, arith}
 use Rattle.std.specs.Prelude.{if◌then◌else◌, ◌&&◌}
 use Rattle.std.proofs.lemmas.Bool.Decides.{nat_tests}
 use Rattle.std.proofs.lemmas.List.{append-nil}
@@ -19,10 +19,10 @@ use Rattle.font_set.specs.Programs.{Named, Program, program_at, id_of}
 use Rattle.font_set.specs.Tree.{tree_of}
 use Rattle.vf_expand.specs.Grid.{Grid, State}
 use Rattle.vf_expand.specs.Meaning.{Meaning}
-use Rattle.vf_expand.specs.Marks.{Outcome, after, at_place, prepend, down_by, is_size, past_rule, past_char, right_by, rule_marks, set_char, put_char, step, marks_of, where_sized}
+use Rattle.vf_expand.specs.Marks.{Outcome, after, at_place, prepend, down_by, is_size, past_rule, past_char, right_by, rule_marks, set_char, put_char, step, marks_of}
 use Rattle.vf_expand.specs.Turn.{Turn, turned, Standing, left_behind, left_by, left_from}
-use Rattle.vf_expand.specs.Pages.{chars, meaning, frame_marks, start_in, inner, boxed, run_packet, shown_in, where_font, first_there}
-use Rattle.vf_expand.specs.Causes.{IsLarge, IsUnder, IsDeep, IsOwnCause, IsCharCause, IsTurnCause, IsLeft, IsCauseBy, IsNested, IsFree, InPacket, inside, Moment, Passes}
+use Rattle.vf_expand.specs.Pages.{chars, meaning, frame_marks, start_in, inner, boxed, shown_in, where_font, first_there}
+use Rattle.vf_expand.specs.Causes.{IsLarge, IsUnder, IsOwnCause, IsCharCause, IsTurnCause, IsLeft, IsCauseBy, IsNested, IsFree, inside, Moment, Passes}
 use Rattle.vf_expand.specs.Page.{page_marks, IsPageCause}
 use Rattle.vf_expand.specs.Faultless.{LeavesMarks}
 use Rattle.vf_expand.specs.declared.fault.WalkFault.{WalkFault}

@@ -17,7 +17,7 @@ use Rattle.vf_expand.specs.Meaning.{Meaning}
 use Rattle.vf_expand.specs.Pages.{meaning, start_in, inner}
 use Rattle.vf_expand.specs.Marks.{Outcome, marks_alone}
 use Rattle.vf_expand.specs.Takes.{TookPage, Stops}
-use Rattle.vf_expand.specs.Causes.{Moment, IsDeep, IsOwnCause, IsCharCause, IsTurnCause, IsLeft, IsCauseBy, IsFree, InPacket, IsMany, inside}
+use Rattle.vf_expand.specs.Causes.{IsOwnCause, IsCharCause, IsCauseBy, IsMany, inside}
 use Rattle.vf_expand.specs.Shallow.{CharFinds, FindsRoom, AllFindRoom, PacketFinds}
 use Rattle.vf_expand.specs.Page.{page_marks, page_count, pages_count, IsPageCause, IsShallowPage}
 use Rattle.vf_expand.specs.declared.fault.WalkFault.{WalkFault}

@@ -16,6 +16,7 @@ pub mod Expansion
 pub mod Packets
 mod Rooms
 mod Quick
+mod Sets
 mod Nops
 mod Amounts
 mod Selecting
@@ -25,3 +26,4 @@ pub mod Alike
 pub mod AlikeMarks
 pub mod OnGrids
 pub mod Painting
+mod Told

@@ -1,5 +1,5 @@
 -- The fonts that a fault names are those of the set.
-use Rattle.std.proofs.Common.{◌≡◌, ◌<◌, ◌+◌, ◌⊎◌, inl, inr, ℕ, zero, suc, ℤ, List, [], ◌∷◌, length, Option, Some, sym, subst, arith}
+use Rattle.std.proofs.Common.{◌≡◌, ◌<◌, ◌+◌, ℕ, zero, suc, ℤ, List, [], ◌∷◌, length, Option, sym, subst, arith}
 use Rattle.std.specs.Prelude.{slice_get}
 use Rattle.dv_base.specs.declared.font_id.Spot.{Spot}
 use Rattle.dv_base.specs.declared.font_id.Spot.TheVariants as spot

@@ -1,5 +1,5 @@
 -- Nops ahead: behind them all is as before, but for the steps.
-use Rattle.std.proofs.Common.{◌≡◌, ◌≤◌, ◌<◌, ◌+◌, ◌-◌, ℕ, zero, suc, ℤ, List, [], ◌∷◌, ◌++◌, length, drop, slice_range, Option, refl, sym, ap, subst, ◌∙◌, arith}
+use Rattle.std.proofs.Common.{◌≡◌, ◌≤◌, ◌<◌, ◌+◌, ◌-◌, ℕ, zero, suc, ℤ, List, [], ◌++◌, length, drop, slice_range, Option, refl, sym, ap, subst, ◌∙◌, arith}
 use Rattle.dvi_ops.specs.Command.{Command}
 use Rattle.dvi_ops.specs.Command.Command.{Nop}
 use Rattle.dvi_ops.specs.Laws.{OneSpelling}

@@ -1,20 +1,18 @@
 -- A character of a virtual font runs its packet.
-use Rattle.std.proofs.Common.{◌≡◌, ◌≤◌, ◌<◌, ◌+◌, ◌-◌, ℕ, zero, suc, ℤ, pos, List, [], ◌∷◌, length, Option, Some, None, refl, sym, ap, subst, ◌∙◌, arith, ◌⊎◌, inl, inr}
+use Rattle.std.proofs.Common.{◌≡◌, ◌<◌, ◌-◌, ℕ, zero, suc, ℤ, pos, List, [], ◌∷◌, length, Option, Some, None, refl, sym, ap, ◌∙◌, arith, inl, inr}
 use Rattle.dv_base.specs.declared.font_id.Spot.TheVariants as spot
 use Rattle.dvi_ops.specs.Placed.{Placed, Lexes}
 use Rattle.dvi_ops.specs.Laws.{OneReading}
 use Rattle.positions.specs.Place.{Place}
-use Rattle.positions.specs.Mark.{Mark}
 use Rattle.font_set.specs.Key.{Key}
 use Rattle.font_set.specs.Fonts.{FontSet, state_at, width_at, packet_at, IsVirtual}
-use Rattle.font_set.specs.Programs.{Program, program_at}
+use Rattle.font_set.specs.Programs.{program_at}
 use Rattle.font_set.specs.Frames.{char_act, acts_of}
-use Rattle.font_set.specs.Covers.{Covers, IsShown}
+use Rattle.font_set.specs.Covers.{Covers}
 use Rattle.font_set.specs.Count.{runs, count}
 use Rattle.vf_expand.specs.Grid.{Grid}
-use Rattle.vf_expand.specs.Marks.{Outcome}
-use Rattle.vf_expand.specs.Pages.{chars, boxed, inner, frame_marks, first_there, meaning, start_in}
-use Rattle.vf_expand.specs.Causes.{inside, IsCause, IsFree, IsNested, InPacket}
+use Rattle.vf_expand.specs.Pages.{chars, boxed, inner, frame_marks}
+use Rattle.vf_expand.specs.Causes.{inside, IsCause}
 use Rattle.vf_expand.specs.declared.fault.WalkFault.{WalkFault}
 use Rattle.vf_expand.specs.declared.fault.WalkFault.TheVariants as fault
 use Rattle.vf_expand.proofs.Chars.{packet_home, program_is, virtual_is, chars_virtual, chars_nested, runs_virtual, CoveredChar, packet_covers, first_is}

@@ -1,5 +1,5 @@
 -- What the grammar says of each page.
-use Rattle.std.proofs.Common.{◌≡◌, ◌≤◌, ◌+◌, ◌-◌, ℕ, ℤ, List, Option, length, map, drop, get_or, Some, arith, refl, sym, ap, subst, ◌∙◌}
+use Rattle.std.proofs.Common.{◌≡◌, ◌≤◌, ◌+◌, ◌-◌, ℕ, ℤ, List, Option, length, map, drop, get_or, Some, arith, sym, ap, subst, ◌∙◌}
 use Rattle.std.specs.Prelude.{slice_get, slice_range}
 use Rattle.std.specs.Option.{option_map}
 use Rattle.std.proofs.lemmas.List.{length-take, length-drop}
@@ -14,7 +14,6 @@ use Rattle.dvi_doc.specs.View.{IsRead, Outline, ReadDoc, outline, page_view}
 use Rattle.dvi_doc.specs.declared.page.Page.{Page}
 use Rattle.dvi_ops.specs.Laws.{OneReading}
 use Rattle.dvi_ops.specs.Reading.{commands_in}
-use Rattle.dvi_doc.specs.Document.{pages_of}
 use Rattle.dvi_doc.proofs.Judged.{page_lexes}
 use Rattle.font_set.specs.Programs.{page_program}
 use Rattle.font_set.specs.Search.{page_of, page_in, program_in, or_none}

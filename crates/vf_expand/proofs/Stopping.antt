@@ -1,10 +1,9 @@
 -- What a command gives of the marks of a page, and a walk that stops at it.
-use Rattle.std.proofs.Common.{◌≡◌, ◌<◌, ◌+◌, ◌⊎◌, inl, inr, ℕ, ℤ, List, [], ◌∷◌, ◌++◌, length, Option, Some, None, refl, sym, ap, subst, ◌∙◌, append_assoc, arith}
+use Rattle.std.proofs.Common.{◌≡◌, ◌<◌, ◌+◌, inl, ℕ, ℤ, List, [], ◌∷◌, ◌++◌, length, Option, Some, None, refl, sym, ap, subst, ◌∙◌, append_assoc, arith}
 use Rattle.std.specs.List.{Contains}
 use Rattle.std.proofs.lemmas.List.{append-nil}
 use Rattle.std.proofs.lemmas.List.Elements.{Contains-append_left, Contains-append_right}
 use Rattle.dv_base.specs.declared.font_id.Spot.{Spot}
-use Rattle.dv_base.specs.declared.font_id.Spot.TheVariants as spot
 use Rattle.dvi_ops.specs.Command.{Command}
 use Rattle.positions.specs.Place.{Place}
 use Rattle.positions.specs.Mark.{Glyph, Mark}
@@ -17,12 +16,10 @@ use Rattle.vf_expand.specs.Meaning.{Meaning}
 use Rattle.font_set.specs.Tree.{tree_of}
 use Rattle.vf_expand.specs.Marks.{Outcome, prepend, step, marks_of, marks_alone}
 use Rattle.vf_expand.specs.Turn.{Turn, turned, turned_by, of_step, turn_marks}
-use Rattle.vf_expand.specs.Takes.{RefusesNext, Stops, Halts, TookSome, CanTake, IsAmong, MayCome, Nothing}
-use Rattle.vf_expand.specs.Causes.{IsCauseBy, IsTurnCause, IsHaltCause, Moment, IsLeft}
+use Rattle.vf_expand.specs.Takes.{RefusesNext, Stops, TookSome, CanTake, IsAmong, MayCome, Nothing}
+use Rattle.vf_expand.specs.Causes.{IsCauseBy, IsTurnCause, Moment}
 use Rattle.vf_expand.specs.declared.fault.WalkFault.{WalkFault}
 use Rattle.vf_expand.specs.declared.fault.WalkFault.TheVariants as fault
-use Rattle.vf_expand.specs.declared.fault.Halt.{Halt}
-use Rattle.vf_expand.specs.declared.fault.Halt.TheVariants as halt
 use Rattle.positions.specs.Mark.Mark.{OfGlyph, OfRule, OfSpecial}
 use Rattle.vf_expand.proofs.Walk.{walk, go_on, walk_turn, walk_page}
 use Rattle.vf_expand.proofs.Bytes.{Going}

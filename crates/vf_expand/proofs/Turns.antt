@@ -1,5 +1,5 @@
 -- One turn of the code is one turn of the walk.
-use Rattle.std.proofs.Common.{◌≡◌, ℕ, ℤ, pos, List, [], ◌∷◌, Option, Some, None, Result, Ok, Err, refl, sym, ap, subst, ◌∙◌, ◌⊎◌, inl, inr, ◌+ℤ◌}
+use Rattle.std.proofs.Common.{◌≡◌, ℕ, ℤ, pos, List, [], ◌∷◌, Option, Some, None, refl, sym, subst, ◌∙◌, ◌+ℤ◌}
 use Rattle.std.proofs.lemmas.List.{append-nil}
 use Rattle.dv_base.specs.declared.font_id.Spot.{Spot}
 use Rattle.dvi_ops.specs.Command.{Command}
@@ -19,18 +19,17 @@ use Rattle.font_set.specs.Covers.{IsThere}
 use Rattle.dvi_doc.specs.Grammar.{IsInner}
 use Rattle.vf_expand.specs.Commands.{IsPlain}
 use Rattle.font_set.specs.Tree.{Bracket, bracket}
-use Rattle.font_set.specs.Tree.Bracket.{Opens, Closes, Neither}
+use Rattle.font_set.specs.Tree.Bracket.{Neither}
 use Rattle.vf_expand.specs.Grid.{State}
 use Rattle.vf_expand.specs.Grid.{Grid}
 use Rattle.vf_expand.specs.Meaning.{Meaning, Showing, no_char}
 use Rattle.vf_expand.specs.Pages.{sense}
 use Rattle.vf_expand.specs.Marks.{Outcome, step, set_char, put_char, at_place, past_char, marks_alone}
-use Rattle.vf_expand.specs.Turn.{Turn, turned, turned_by, of_step, turn_marks}
-use Rattle.vf_expand.specs.Takes.{Follows, FollowsTurn, TookChar, TookSome, Stops, Halts, char_marks}
-use Rattle.vf_expand.specs.Causes.{IsTurnCause, IsHaltCause, Passes, IsLarge}
+use Rattle.vf_expand.specs.Turn.{turned, turned_by, of_step, turn_marks}
+use Rattle.vf_expand.specs.Takes.{Follows, FollowsTurn, TookChar, Stops, Halts, char_marks}
+use Rattle.vf_expand.specs.Causes.{Passes, IsLarge}
 use Rattle.vf_expand.specs.declared.fault.WalkFault.{WalkFault}
 use Rattle.vf_expand.specs.declared.fault.WalkFault.TheVariants as fault
-use Rattle.vf_expand.specs.declared.fault.Halt.{Halt}
 use Rattle.vf_expand.specs.declared.fault.Halt.TheVariants as halt
 use Rattle.font_set.specs.Frames.{char_act}
 use Rattle.vf_expand.specs.Homes.{meaning_in, IsTurnReady, IsCharReady}

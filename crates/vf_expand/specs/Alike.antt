@@ -1,5 +1,5 @@
 -- One page with the fonts of two sets that have them from the same files.
-use Rattle.std.specs.Prelude.{◌≡◌, ℕ, List, [], ◌∷◌, Some}
+use Rattle.std.specs.Prelude.{◌≡◌, List, [], ◌∷◌, Some}
 use Rattle.dv_base.specs.Shelf.{Contents}
 use Rattle.dvi_ops.specs.Command.{Definition}
 use Rattle.dvi_ops.specs.Placed.{Placed}

@@ -1,5 +1,5 @@
 -- Where the commands of a frame stand.
-use Rattle.std.specs.Prelude.{◌≡◌, ◌<◌, ℕ, ℤ, pos, List, [], ◌∷◌, length, Option, None, Some}
+use Rattle.std.specs.Prelude.{◌≡◌, ◌<◌, ℕ, ℤ, List, [], ◌∷◌, length, Option, None, Some}
 use Rattle.dv_base.specs.declared.font_id.Spot.{Spot}
 use Rattle.dv_base.specs.declared.font_id.Spot.TheVariants as spot
 use Rattle.positions.specs.Place.{Place}

@@ -1,5 +1,5 @@
 -- The marks of commands, and the state behind them (DVI format, the meaning of the commands).
-use Rattle.std.specs.Prelude.{◌≡◌, ℕ, ◌^◌, Bool, ◌&&◌, ℤ, pos, List, [], ◌∷◌, ◌++◌, Option, Some, None, nat_lt, if◌then◌else◌, unsigned_abs, int_lt}
+use Rattle.std.specs.Prelude.{ℕ, ◌^◌, Bool, ◌&&◌, ℤ, pos, List, [], ◌∷◌, ◌++◌, Option, Some, None, nat_lt, if◌then◌else◌, unsigned_abs, int_lt}
 use Rattle.dv_base.specs.Rounding.{ceiling, rounded}
 use Rattle.positions.specs.Place.{Place}
 use Rattle.positions.specs.Drift.{advanced, right, down}
@@ -7,8 +7,7 @@ use Rattle.positions.specs.Mark.{Mark}
 use Rattle.positions.specs.Mark.Mark.{OfRule, OfSpecial}
 use Rattle.dvi_ops.specs.Command.{Command}
 use Rattle.dvi_ops.specs.Command.Command.{Set, Put, Fnt, SetRule, PutRule, Nop, FntDef, Right, W0, W, X0, X, Down, Y0, Y, Z0, Z, Xxx}
-use Rattle.dvi_ops.specs.Placed.{Placed}
-use Rattle.font_set.specs.Tree.{Tree, tree_of}
+use Rattle.font_set.specs.Tree.{Tree}
 use Rattle.font_set.specs.Tree.Tree.{End, Then, Group}
 use Rattle.vf_expand.specs.Grid.{Grid, State}
 use Rattle.vf_expand.specs.Meaning.{Meaning}

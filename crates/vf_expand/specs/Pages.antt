@@ -5,7 +5,6 @@ use Rattle.dv_base.specs.Rounding.{rounded}
 use Rattle.positions.specs.Place.{Place}
 use Rattle.positions.specs.Mark.{Glyph, Mark}
 use Rattle.positions.specs.Mark.Mark.{OfGlyph}
-use Rattle.dvi_ops.specs.Placed.{Placed}
 use Rattle.font_set.specs.Fonts.{State, FontSet, space_at, state_at, width_at}
 use Rattle.font_set.specs.Programs.{Named, Scope, Program, program_at, select, first_font, id_of}
 use Rattle.font_set.specs.Tree.{tree_of}

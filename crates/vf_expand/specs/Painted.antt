@@ -1,5 +1,5 @@
 -- The glyphs that a walk paints.
-use Rattle.std.specs.Prelude.{◌≡◌, ◌<◌, ℕ, List, length, Option, Some, None}
+use Rattle.std.specs.Prelude.{◌≡◌, ◌<◌, ℕ, List, length, Some, None}
 use Rattle.dv_base.specs.Rounding.{rounded}
 use Rattle.positions.specs.Mark.{Glyph}
 use Rattle.font_set.specs.Fonts.{State, FontSet, state_at, width_at}

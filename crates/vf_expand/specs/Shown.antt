@@ -1,5 +1,5 @@
 -- The marks of an expanded tree, with the fonts of a set.
-use Rattle.std.specs.Prelude.{ℕ, ℤ, pos, Bool, true, false, List, [], ◌∷◌, Option, Some, None}
+use Rattle.std.specs.Prelude.{ℕ, ℤ, Bool, true, false, List, [], ◌∷◌, Option, Some, None}
 use Rattle.positions.specs.Mark.{Mark}
 use Rattle.positions.specs.Place.{Place}
 use Rattle.font_set.specs.Fonts.{FontSet, place_of}

@@ -1,5 +1,5 @@
 -- What a walk gives to a canvas.
-use Rattle.std.specs.Prelude.{◌≡◌, ℕ, ℤ, pos, ◌≤ℤ◌, List, [], ◌∷◌, ◌++◌, Option, Some, None}
+use Rattle.std.specs.Prelude.{◌≡◌, ℤ, pos, ◌≤ℤ◌, List, [], ◌∷◌, ◌++◌, Option, Some, None}
 use Rattle.std.specs.List.{Contains}
 use Rattle.positions.specs.Place.{Place}
 use Rattle.positions.specs.Mark.{Glyph, Mark, IsModerate}

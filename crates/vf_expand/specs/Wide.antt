@@ -1,6 +1,7 @@
 -- How wide characters are, which are glyphs, and in which fonts the packets of virtual ones begin.
-use Rattle.std.specs.Prelude.{Bool, true, false, ◌≡◌, ◌<◌, ◌≤◌, ◌+◌, ◌*◌, ◌%◌, ◌^◌, ℕ, List, Option, Some, None, slice_get, unsigned_abs}
-use Rattle.dv_base.specs.Rounding.{rounded}
+use Rattle.std.specs.Prelude.{Bool, true, false, ◌≡◌, ◌<◌, ◌+◌, ◌*◌, ◌%◌, ◌^◌, ℕ, List, Option, Some, None, slice_get, unsigned_abs}
+use Rattle.dv_base.specs.Rounding.{IsFine, rounded}
+use Rattle.dv_base.specs.Excess.{Tells, excess}
 use Rattle.font_set.specs.Fonts.{FontSet, width_at, packet_at}
 use Rattle.font_set.specs.Programs.{id_of, key_of_first, head_of, locals_at}
 use Rattle.vf_expand.specs.Grid.{Grid}
@@ -9,9 +10,11 @@ use Rattle.vf_expand.specs.declared.met.Glyphs.{Glyphs}
 use Rattle.vf_expand.specs.declared.met.Met.{Met}
 use Rattle.vf_expand.specs.declared.met.Start.{Start}
 
--- the pixels are those of the width, rounded
+-- the pixels are those of the width, rounded, and the excess is theirs; the pixels of one unit are as few as a conversion has them
 pub record IsWide (g : Grid) (w : Wide) : Type 0 where
   pub pixels : w.pixels ≡ rounded g.across w.width
+  pub excess : Tells w.excess (excess g.across w.width w.pixels)
+  pub fine : IsFine g.across
   pub width_bound : unsigned_abs w.width < 2 ^ 32
   pub pixels_bound : unsigned_abs w.pixels < 2 ^ 32
 

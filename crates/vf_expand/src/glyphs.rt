@@ -54,6 +54,7 @@ fn nothing() -> Met
             wide: Wide {
                 width: 0,
                 pixels: 0,
+                excess: 0,
             },
         },
         None => unreachable!(),

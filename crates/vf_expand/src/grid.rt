@@ -8,6 +8,7 @@ ghost use Rattle.vf_expand.specs.Pages.{glyph_at};
 ghost use Rattle.vf_expand.specs.Takes.{MayCome, Nothing};
 ghost use Rattle.vf_expand.specs.Causes.{IsLarge};
 ghost use Rattle.vf_expand.specs.Wide.{IsWide};
+ghost use Rattle.dv_base.specs.Excess.{IsReach, Tells, excess};
 
 use dv_base::{Conv, FontId};
 use positions::{GlyphMark, Passed, Pos, RuleMark};
@@ -34,11 +35,12 @@ impl Model for Grid {
     ghost inverse = { λ g. record { across = g.across; down = g.down; drift = g.drift } };
 }
 
-/// How wide a character is, in units and in pixels.
+/// How wide a character is, in units and in pixels, and what is told of the excess of these pixels (dv_base: [`Conv::excess`]).
 #[derive(Clone, Copy)]
 pub struct Wide {
     pub width: i64,
     pub pixels: i64,
+    pub excess: i64,
 }
 
 impl Wide {
@@ -105,7 +107,12 @@ impl Grid {
         ensures same { result.width ≡ width }
     {
         let pixels = self.across.round(width);
-        Wide { width, pixels }
+        let excess = self.across.excess(width, pixels);
+        Wide {
+            width,
+            pixels,
+            excess,
+        }
     }
 
     /// Moves right past a character.
@@ -117,6 +124,50 @@ impl Grid {
         ensures large { OnErr result (IsLarge (pos.old.h +ℤ wide.now.width)) }
     {
         pos.advance(&self.across, self.drift, wide.width, wide.pixels)
+    }
+
+    /// What is told of the excess of a place's pixels across.
+    #[inline(always)]
+    pub fn excess(&self, here: &Pos) -> i64
+        ensures { Tells result (excess self.now.across here.now.h here.now.hh) }
+    {
+        self.across.excess(here.h, here.hh)
+    }
+
+    /// An excess across with which a place has not drifted too far.
+    pub fn reach(&self) -> i64
+        ensures { IsReach self.now.across self.now.drift result }
+    {
+        self.across.reach(self.drift)
+    }
+
+    /// Moves right past a character behind which the place is within the limit; of the excess there, `told` is told before and the
+    /// answer behind.
+    // Most characters leave the place within reach: one sum tells it.
+    #[inline(always)]
+    pub fn past_told(&self, reach: i64, told: i64, here: &mut Pos, wide: &Wide) -> i64
+        requires reach { IsReach self.now.across self.now.drift reach }
+        requires told { Tells told (excess self.now.across here.old.h here.old.hh) }
+        requires wide { IsWide self.now wide.now }
+        requires fits { IsLarge (here.old.h +ℤ wide.now.width) → ⊥ }
+        ensures past { past_char self.now wide.now.width here.old ≡ Some here.new }
+        ensures told { Tells result (excess self.now.across here.new.h here.new.hh) }
+    {
+        let _ = &self.drift;
+        let sum = told + wide.excess;
+        if sum.unsigned_abs() <= reach.unsigned_abs() {
+            *here = Pos {
+                h: here.h + wide.width,
+                hh: here.hh + wide.pixels,
+                ..*here
+            };
+            return sum;
+        }
+        match self.past_char(here, wide) {
+            Ok(()) => {}
+            Err(Passed) => unreachable!(),
+        }
+        self.excess(here)
     }
 
     /// The glyph of a character at a place.

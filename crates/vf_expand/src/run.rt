@@ -1,9 +1,9 @@
 //! The walk over a page's bytes, through the packets that it runs.
-ghost use Rattle.std.specs.Prelude.{◌≡◌, ◌+◌, ◌<◌, ◌≤◌, ◌^◌, pos, List, [], ◌∷◌, Option, length, take, vec_len, vec_capacity, OnOk, IfOk, IfErr, IfSome, Some, None, unsigned_abs, slice_range};
+ghost use Rattle.std.specs.Prelude.{◌≡◌, ◌+◌, ◌-◌, ◌<◌, ◌≤◌, ◌^◌, pos, List, [], ◌∷◌, Option, length, take, vec_len, vec_capacity, OnOk, IfOk, IfErr, IfSome, Some, None, unsigned_abs, slice_range};
 ghost use Rattle.positions.specs.Conditions.{SameCondition};
 ghost use Rattle.dvi_ops.specs.Placed.{Placed, Lexes};
 ghost use Rattle.dvi_ops.specs.Command.Command.{Set, Nop};
-ghost use Rattle.dvi_ops.specs.Spelling.{Spell};
+ghost use Rattle.dvi_ops.specs.Spelling.{Spell, byte_at};
 ghost use Rattle.dvi_ops.specs.View.{view};
 ghost use Rattle.font_set.specs.Key.{Key};
 ghost use Rattle.font_set.specs.Programs.{id_of, select};
@@ -16,7 +16,7 @@ ghost use Rattle.vf_expand.specs.Pages.{chars};
 ghost use Rattle.vf_expand.specs.Marks.{marks_alone};
 ghost use Rattle.vf_expand.specs.Painted.{HasGlyph};
 ghost use Rattle.vf_expand.specs.Wide.{IsWide, AreMet};
-ghost use Rattle.vf_expand.specs.Quick.{IsQuick};
+ghost use Rattle.vf_expand.specs.Quick.{IsQuick, CanSet, TookSet, RefusedSet};
 ghost use Rattle.vf_expand.specs.Nops.{AreNops};
 ghost use Rattle.vf_expand.specs.declared.fault.WalkFault.TheVariants as fault;
 ghost use Rattle.vf_expand.specs.Turn.{turned, turn_marks, open_at};
@@ -71,6 +71,13 @@ fn character(frame: &Frame<'_>, font: Option<FontId>, z: i64) -> (FontId, u8)
     }
 }
 
+/// A character that is quick: its font, and how wide it is.
+#[derive(Clone, Copy)]
+struct Found {
+    font: FontId,
+    wide: Wide,
+}
+
 impl Run {
     /// With room for all pushes that may be open.
     pub fn new(alloc: Global) -> Result<Run, AllocError>
@@ -115,12 +122,11 @@ impl Run {
         let mut at = 0;
         while at < bytes.len() {
             let op = bytes[at];
-            if let Some((id, wide)) = self.quick(frame, op, font, &pos) {
-                match self.set(frame, id, op, &wide, &mut pos, canvas) {
-                    Ok(()) => {}
+            if let Some(found) = self.begins_run(frame, op, font, &pos) {
+                match self.characters(frame, bytes, at, found, &mut pos, canvas) {
+                    Ok(end) => at = end,
                     Err(f) => return Err(WalkFault::Canvas(f)),
                 }
-                at += 1;
                 continue;
             }
             if self.steps < MOST_STEPS && is_nop(bytes, at) {
@@ -163,61 +169,89 @@ impl Run {
         end
     }
 
-    /// The font and the width of the character in one byte, where its glyph is kept and nothing stops it.
-    // Most of a page is such characters: no command and no fault is made for them.
+    /// How wide the character in one byte is, where its glyph is kept and the place behind it is within the limit.
     #[inline(always)]
-    fn quick(
+    fn quick(&self, frame: &Frame<'_>, id: FontId, op: u8, here: &Pos) -> Option<Wide>
+        requires met { AreMet frame.now.grid frame.now.fonts.now self.now.glyphs }
+        ensures { IfSome result (IsQuick frame.now id op here.now) }
+    {
+        if op >= 128 {
+            return None;
+        }
+        let wide = self.glyphs.kept(id, op)?;
+        if wide.fits(here) { Some(wide) } else { None }
+    }
+
+    /// The character in one byte, where it is quick and may still be met.
+    #[inline(always)]
+    fn begins_run(
         &self,
         frame: &Frame<'_>,
         op: u8,
         font: Option<FontId>,
         here: &Pos,
-    ) -> Option<(FontId, Wide)>
+    ) -> Option<Found>
         requires met { AreMet frame.now.grid frame.now.fonts.now self.now.glyphs }
-        ensures { IfSome result (IsQuick frame.now self.now.steps op font here.now) }
+        ensures few { IfSome result (λ found. self.now.steps < 50000000) }
+        ensures font { IfSome result (λ found. font ≡ Some found.font) }
+        ensures quick { IfSome result (λ found. IsQuick frame.now found.font op here.now found.wide) }
     {
-        let id = font?;
-        if op >= 128 || self.steps >= MOST_STEPS {
+        let font = font?;
+        if self.steps >= MOST_STEPS {
             return None;
         }
-        let wide = self.glyphs.kept(id, op)?;
-        if wide.fits(here) {
-            Some((id, wide))
-        } else {
-            None
-        }
+        let wide = self.quick(frame, font, op, here)?;
+        Some(Found { font, wide })
     }
 
-    /// Sets such a character.
-    #[inline(always)]
-    fn set<C: Canvas>(
+    /// Sets the quick characters that stand from a place on, of which the first is so wide; answers the place behind them.
+    // Most of a page is such characters: no command and no fault is made for them, and what the loop needs stays in registers.
+    #[inline(never)]
+    fn characters<C: Canvas>(
         &mut self,
         frame: &Frame<'_>,
-        id: FontId,
-        op: u8,
-        wide: &Wide,
-        here: &mut Pos,
+        bytes: &[u8],
+        start: usize,
+        first: Found,
+        pos: &mut Pos,
         canvas: &mut C,
-    ) -> Result<(), C::Fault>
-        requires base { frame.now.base ≤ vec_len self.old.saved }
-        requires quick { IsQuick frame.now self.old.steps op (Some id) here.old (id, wide.now) }
-        requires ready { IsTurnReady C.can frame.now canvas.old (Set (pos op)) (Some id) (turn_marks (turned (meaning_in frame.now) (Set (pos op)) (open_at frame.now.base self.old.saved.items) (record { place = here.old; font = Some id }))) }
+    ) -> Result<usize, C::Fault>
+        requires inside { start < length bytes.now }
+        requires few { self.old.steps < 50000000 }
+        requires first { IsQuick frame.now first.font (byte_at bytes.now start) pos.old first.wide }
         requires met { AreMet frame.now.grid frame.now.fonts.now self.old.glyphs }
-        ensures ok { OnOk result (FollowsTurn (Took (HasGlyph frame.now.grid frame.now.fonts.now) C.takes) canvas.old canvas.new (open_at frame.now.base self.new.saved.items) (record { place = here.new; font = Some id }) (turned (meaning_in frame.now) (Set (pos op)) (open_at frame.now.base self.old.saved.items) (record { place = here.old; font = Some id }))) }
-        ensures stops { IfErr result (λ f. Stops C.takes C.refuses canvas.old canvas.new (turn_marks (turned (meaning_in frame.now) (Set (pos op)) (open_at frame.now.base self.old.saved.items) (record { place = here.old; font = Some id }))) (fault.Canvas f)) }
-        ensures steps { OnOk result (self.new.steps ≡ self.old.steps + weight (runs frame.now.fonts.now frame.now.nest) (Some id) (Set (pos op))) }
-        ensures room { OnOk result (FindsRoom (PacketFinds frame.now.grid frame.now.fonts.now frame.now.nest) frame.now.base (Set (pos op)) (open_at frame.now.base self.old.saved.items) (record { place = here.old; font = Some id })) }
+        requires can { CanSet C.can frame.now canvas.old first.font bytes.now start pos.old }
+        ensures further { IfOk result (λ end. (start < end) × (end ≤ length bytes.now)) }
+        ensures ok { IfOk result (λ end. TookSet C.takes frame.now first.font bytes.now start (end - start) pos.old pos.new canvas.old canvas.new) }
+        ensures refused { IfErr result (λ x. RefusedSet C.refuses frame.now first.font bytes.now start pos.old canvas.old canvas.new x) }
+        ensures steps { IfOk result (λ end. self.new.steps + start ≡ self.old.steps + end) }
         ensures stack { self.new.saved.items ≡ self.old.saved.items }
-        ensures met { AreMet frame.now.grid frame.now.fonts.now self.new.glyphs }
+        ensures met { self.new.glyphs ≡ self.old.glyphs }
         ensures same { OnOk result (SameCondition C.can canvas.old canvas.new) }
     {
-        let mark = frame.grid.glyph(id, op, here, wide);
-        match frame.grid.past_char(here, wide) {
-            Ok(()) => {}
-            Err(Passed) => unreachable!(),
+        let left = (MOST_STEPS - self.steps) as usize;
+        let end = start + left.min(bytes.len() - start);
+        let reach = frame.grid.reach();
+        let mut told = frame.grid.excess(pos);
+        let mut here = *pos;
+        let mut wide = first.wide;
+        let mut at = start;
+        loop {
+            let mark = frame.grid.glyph(first.font, bytes[at], &here, &wide);
+            told = frame.grid.past_told(reach, told, &mut here, &wide);
+            canvas.glyph(&mark)?;
+            at += 1;
+            if at == end {
+                break;
+            }
+            match self.quick(frame, first.font, bytes[at], &here) {
+                Some(next) => wide = next,
+                None => break,
+            }
         }
-        self.steps += 1;
-        canvas.glyph(&mark)
+        *pos = here;
+        self.steps += (at - start) as u64;
+        Ok(at)
     }
 
     /// Does one command; `spot` is where it stands.

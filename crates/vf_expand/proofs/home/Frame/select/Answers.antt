@@ -1,4 +1,4 @@
-use Rattle.std.proofs.Common.{◌≡◌, ◌∙◌, ℤ, Some, refl, sym, ap, subst, w64}
+use Rattle.std.proofs.Common.{◌∙◌, ℤ, sym, ap, subst, w64}
 use Rattle.std.proofs.lemmas.Int.{to_z-of_z}
 use Rattle.dvi_doc.specs.Grammar.{Defines}
 use Rattle.font_set.specs.Programs.{select, id_of}

@@ -1,5 +1,5 @@
 -- Where so many pages were walked over that no number is left for another, the slots are emptied.
-use Rattle.std.proofs.Common.{◌≡◌, arith, refl, rules}
+use Rattle.std.proofs.Common.{arith, rules}
 use Rattle.std.specs.Prelude.{vec_len}
 use Rattle.vf_expand.specs.Past.{AreOfPages, AreStartsOfPages}
 use Rattle.vf_expand.proofs.Kept.{none_met, none_started, later_met, later_started, not_met, not_started}

@@ -1,4 +1,4 @@
-use Rattle.std.proofs.Common.{◌≡◌, refl, sym, ap}
+use Rattle.std.proofs.Common.{refl}
 use Rattle.font_set.specs.Programs.{first_font}
 use Rattle.vf_expand.proofs.met.Glyphs.first.Goals as goal
 

@@ -1,5 +1,5 @@
-use Rattle.std.proofs.Common.{◌≡◌, ◌<◌, ◌*◌, ◌+◌, ◌%◌, arith, ℕ, subst, sym, length}
-use Rattle.vf_expand.specs.Wide.{IsChar, slot_of}
+use Rattle.std.proofs.Common.{◌≡◌, ◌%◌, arith, ℕ, subst, sym}
+use Rattle.vf_expand.specs.Wide.{IsChar}
 use Rattle.vf_expand.specs.declared.met.Met.{Met}
 use Rattle.vf_expand.proofs.Kept.{each_met}
 use Rattle.vf_expand.proofs.met.Glyphs.keep.Goals as goal

@@ -1,4 +1,4 @@
-use Rattle.std.proofs.Common.{◌≡◌, ◌<◌, ◌≤◌, ◌+◌, ◌-◌, ◌∙◌, pos, List, [], ◌∷◌, length, take, drop, Option, Some, None, refl, sym, ap, subst, ℕ, arith, rules, inl, inr, FitsSigned, w64}
+use Rattle.std.proofs.Common.{◌≡◌, ◌<◌, ◌≤◌, ◌+◌, ◌-◌, ◌∙◌, pos, List, [], ◌∷◌, ◌++◌, length, take, drop, Option, Some, None, refl, sym, ap, subst, ℕ, arith, rules, inl, inr, FitsSigned, w64}
 use Rattle.std.specs.Prelude.{vec_len}
 use Rattle.std.proofs.lemmas.Int.{to_z-of_z}
 use Rattle.vf_expand.specs.Marks.{Outcome, step}
@@ -24,7 +24,8 @@ use Rattle.dv_base.specs.declared.font_id.Spot.TheVariants as spot
 use Rattle.vf_expand.specs.declared.fault.Halt.{Halt}
 use Rattle.vf_expand.proofs.Bytes.{start_room, more_room, room_all, finish, lexed_next, none_open, pushed, as_many, no_fault, at_end, left_all, rest_nil}
 use Rattle.vf_expand.proofs.Sizes.{special_in_range}
-use Rattle.vf_expand.specs.Nops.{AreNops}
+use Rattle.vf_expand.proofs.Covering.{Ahead}
+use Rattle.vf_expand.proofs.Sets.{TookListed, ahead_set, at_font, going_at, can_set, counted_set, covers_set, going_with, goes_listed, goes_set, listed_of, refused_set}
 use Rattle.vf_expand.proofs.Nops.{ahead_behind, counted_behind, goes_behind}
 use Rattle.vf_expand.proofs.Covering.{ahead_start, ahead_next, painted_more}
 use Rattle.vf_expand.proofs.Coming.{took_both, char_alone, follows_more}
@@ -41,10 +42,6 @@ use Rattle.vf_expand.specs.Shallow.{PacketFinds}
 use Rattle.vf_expand.proofs.Rooms.{room_real, room_packet, push_room, pop_room, font_room, set_room, put_room, plain_room}
 use Rattle.dvi_ops.specs.Spelling.{byte_at}
 use Rattle.dvi_ops.proofs.Texts.{set_single}
-use Rattle.font_set.specs.Count.{weight}
-use Rattle.vf_expand.specs.Homes.{IsTurnReady}
-use Rattle.vf_expand.specs.Shallow.{FindsRoom}
-use Rattle.vf_expand.specs.Takes.{FollowsTurn}
 use Rattle.vf_expand.specs.declared.fault.WalkFault.TheVariants as fault
 use Rattle.vf_expand.proofs.run.Run.+frames.Goals as goal
 
@@ -214,97 +211,121 @@ frame-returns-else-len-frame-clause-cause g t c = λ cs l.
 
 -- ---- characters that are set without a command
 
-pub frame-set-requires-clause-ready : goal.frame-set-requires-clause-ready
-frame-set-requires-clause-ready g t c =
+pub frame-characters-requires-clause-can : goal.frame-characters-requires-clause-can
+frame-characters-requires-clause-can g t c = λ n q r ms m inside set sets.
     let f = c.args.frame.now in
     let bytes = c.args.bytes.now in
-    let q = c.in-Some.ensures in
-    let k = set_single bytes c.loop-at.at c.loop-at-test.true q.small in
-    let cmd = Set (pos (byte_at bytes c.loop-at.at)) in
+    let from = first_of f.home in
+    let inv = c.loop-at.invariant in
+    let at = c.loop-at.at in
+    let id = c.in-Some.found.font in
     let os = open_at f.base c.loop-at.self.saved.items in
-    let here : State = record { place = c.loop-at.pos; font = c.loop-at.font } in
-    let a = c.loop-at.invariant.ahead in
-    let x = ahead_next c.one_spelling.ensures f.fonts.now (scope_in f) (acts_in f a.0) c.loop-at.font bytes (first_of f.home) c.loop-at.at (c.loop-at.at + 1) cmd k.0 k.1 k.2 a.3 in
-    let go = (c.loop-at.invariant.goes a.0 a.1).0 in
-    let n = lexed_next c.one_spelling.ensures bytes (first_of f.home) c.loop-at.at (c.loop-at.at + 1) cmd go.rest k.0 k.1 k.2 go.lexed in
-    let few = acts_of_command (scope_in f) x.sel cmd in
-    subst (λ (o : Option ℕ). IsTurnReady g.C.Canvas.can f c.loop-at.canvas cmd o (turn_marks (turned (meaning_in f) cmd os (record { place = c.loop-at.pos; font = o })))) q.same
-    (record {
-      sel = x.sel;
-      same = x.same;
-      covers = x.covers;
-      can_take =
-          can_on g.C.Canvas.can c.loop-at.canvas (IsPainted f.grid f.fonts.now few) (IsPainted f.grid f.fonts.now (acts_in f a.0)) (painted_more f.grid f.fonts.now few (acts_in f a.0) x.wider) go.taken
-          (turn_marks (turned (meaning_in f) cmd os here)) (marks_alone (marks_in f a.0 c.args.start))
-          (covers_next (Took (HasGlyph f.grid f.fonts.now) g.C.Canvas.takes) (meaning_in f) (start_in f.fonts.now (program_in f a.0) c.args.start) a.0 (drop c.loop-at.at bytes) (first_of f.home + c.loop-at.at) c.args.canvas.now c.loop-at.canvas os here go n.0 n.1 cmd n.2 n.3)
-          (can_later g.C.Canvas.can (IsPainted f.grid f.fonts.now (acts_in f a.0)) c.args.canvas.now c.loop-at.canvas (marks_alone (marks_in f a.0 c.args.start)) c.loop-at.invariant.same a.2.1);
-    })
+    let a = inv.ahead in
+    let acts = acts_in f a.0 in
+    let ahead = subst (λ (o : Option ℕ). Ahead f.fonts.now (scope_in f) acts o (drop at bytes) (from + at)) c.in-Some.ensures.font a.3 in
+    let s0 = start_in f.fonts.now (program_in f a.0) c.args.start in
+    let go = going_with f id bytes from at os a.0 s0 g.C.Canvas.takes c.args.canvas.now c.loop-at.canvas c.loop-at.pos c.loop-at.font c.in-Some.ensures.font (inv.goes a.0 a.1) in
+    let b : at + n ≤ length bytes = omega (arith, inside) in
+    let one = c.one_spelling.ensures in
+    let listed = goes_listed one f acts id bytes from s0 a.0 os at n c.loop-at.pos q ms go.0.taken b set ahead (listed_of g.C.Canvas.takes f s0 a.0 id bytes from at os c.args.canvas.now c.loop-at.canvas c.loop-at.pos go) in
+    can_set one f acts id bytes from s0 a.0 os g.C.Canvas.can c.loop-at.canvas (at + n) q r m (go.0.taken ++ ms) inside sets (ahead_set one f acts id bytes from at n c.loop-at.pos q ms b set ahead) listed
+    (can_later g.C.Canvas.can (IsPainted f.grid f.fonts.now acts) c.args.canvas.now c.loop-at.canvas (marks_alone (marks_in f a.0 c.args.start)) inv.same a.2.1)
 
 pub frame-returns-in-Err-clause-stops : goal.frame-returns-in-Err-clause-stops
 frame-returns-in-Err-clause-stops g t c = λ cs l.
     let f = c.args.frame.now in
     let bytes = c.args.bytes.now in
-    let q = c.in-Some.ensures in
-    let k = set_single bytes c.loop-at.at c.loop-at-test.true q.small in
-    let cmd = Set (pos (byte_at bytes c.loop-at.at)) in
+    let from = first_of f.home in
+    let inv = c.loop-at.invariant in
+    let at = c.loop-at.at in
+    let id = c.in-Some.found.font in
     let os = open_at f.base c.loop-at.self.saved.items in
-    let here : State = record { place = c.loop-at.pos; font = c.loop-at.font } in
-    let go = (c.loop-at.invariant.goes cs l).0 in
-    let n = lexed_next c.one_spelling.ensures bytes (first_of f.home) c.loop-at.at (c.loop-at.at + 1) cmd go.rest k.0 k.1 k.2 go.lexed in
-    stop_on g.C.Canvas.takes g.C.Canvas.refuses g.met.C.Canvas.chains g.met.C.Canvas.refused_later c.args.canvas.now c.loop-at.canvas c.set.new.canvas go.taken go.took.0
-    (turn_marks (turned (meaning_in f) cmd os here)) (marks_alone (marks_in f cs c.args.start))
-    (covers_next (Took (HasGlyph f.grid f.fonts.now) g.C.Canvas.takes) (meaning_in f) (start_in f.fonts.now (program_in f cs) c.args.start) cs (drop c.loop-at.at bytes) (first_of f.home + c.loop-at.at) c.args.canvas.now c.loop-at.canvas os here go n.0 n.1 cmd n.2 n.3)
-    (fault.Canvas c.in-Err.f)
-    (subst (λ (o : Option ℕ). Stops g.C.Canvas.takes g.C.Canvas.refuses c.loop-at.canvas c.set.new.canvas (turn_marks (turned (meaning_in f) cmd os (record { place = c.loop-at.pos; font = o }))) (fault.Canvas c.in-Err.f)) (sym q.same) c.in-Err.ensures.stops)
+    let a = inv.ahead in
+    let acts = acts_in f a.0 in
+    let ahead = subst (λ (o : Option ℕ). Ahead f.fonts.now (scope_in f) acts o (drop at bytes) (from + at)) c.in-Some.ensures.font a.3 in
+    let one = c.one_spelling.ensures in
+    let r = c.in-Err.ensures.refused in
+    let s0 = start_in f.fonts.now (program_in f cs) c.args.start in
+    let go = going_with f id bytes from at os cs s0 g.C.Canvas.takes c.args.canvas.now c.loop-at.canvas c.loop-at.pos c.loop-at.font c.in-Some.ensures.font (inv.goes cs l) in
+    let b : at + r.count ≤ length bytes = omega (arith, r.inside) in
+    let listed = goes_listed one f acts id bytes from s0 cs os at r.count c.loop-at.pos r.here r.marks go.0.taken b r.set ahead (listed_of g.C.Canvas.takes f s0 cs id bytes from at os c.args.canvas.now c.loop-at.canvas c.loop-at.pos go) in
+    let next = ahead_set one f acts id bytes from at r.count c.loop-at.pos r.here r.marks b r.set ahead in
+    let covered = covers_set one f acts id bytes from s0 cs os (at + r.count) r.here r.behind r.mark (go.0.taken ++ r.marks) r.inside r.next next listed in
+    refused_set g.C.Canvas.refuses c.args.canvas.now c.characters.new.canvas c.in-Err.f (go.0.taken ++ r.marks) r.mark (marks_alone (marks_in f cs c.args.start)) covered
+    (g.met.C.Canvas.refused_later c.args.canvas.now c.loop-at.canvas c.characters.new.canvas go.0.taken r.marks r.mark c.in-Err.f go.0.took.0 r.refused)
 
 pub frame-returns-in-Err-clause-cause : goal.frame-returns-in-Err-clause-cause
 frame-returns-in-Err-clause-cause g t c = λ cs l.
     let f = c.args.frame.now in
     let bytes = c.args.bytes.now in
-    let q = c.in-Some.ensures in
-    let k = set_single bytes c.loop-at.at c.loop-at-test.true q.small in
-    let cmd = Set (pos (byte_at bytes c.loop-at.at)) in
+    let from = first_of f.home in
+    let inv = c.loop-at.invariant in
+    let at = c.loop-at.at in
+    let id = c.in-Some.found.font in
     let os = open_at f.base c.loop-at.self.saved.items in
-    let here : State = record { place = c.loop-at.pos; font = c.loop-at.font } in
-    let go = (c.loop-at.invariant.goes cs l).0 in
-    let n = lexed_next c.one_spelling.ensures bytes (first_of f.home) c.loop-at.at (c.loop-at.at + 1) cmd go.rest k.0 k.1 k.2 go.lexed in
-    cause_next (Took (HasGlyph f.grid f.fonts.now) g.C.Canvas.takes) (meaning_in f) (start_in f.fonts.now (program_in f cs) c.args.start) cs (drop c.loop-at.at bytes) (first_of f.home + c.loop-at.at) c.args.canvas.now c.loop-at.canvas os here go n.0 n.1 cmd n.2 n.3 n.4
-    (inside f.grid f.fonts.now f.nest) (λ at. spot_of f.home at) (first_of f.home + length bytes) f.base (fault.Canvas c.in-Err.f) (inl tt)
+    let a = inv.ahead in
+    let acts = acts_in f a.0 in
+    let ahead = subst (λ (o : Option ℕ). Ahead f.fonts.now (scope_in f) acts o (drop at bytes) (from + at)) c.in-Some.ensures.font a.3 in
+    let one = c.one_spelling.ensures in
+    let r = c.in-Err.ensures.refused in
+    let s0 = start_in f.fonts.now (program_in f cs) c.args.start in
+    let go = going_with f id bytes from at os cs s0 g.C.Canvas.takes c.args.canvas.now c.loop-at.canvas c.loop-at.pos c.loop-at.font c.in-Some.ensures.font (inv.goes cs l) in
+    let b : at + r.count ≤ length bytes = omega (arith, r.inside) in
+    let listed = goes_listed one f acts id bytes from s0 cs os at r.count c.loop-at.pos r.here r.marks go.0.taken b r.set ahead (listed_of g.C.Canvas.takes f s0 cs id bytes from at os c.args.canvas.now c.loop-at.canvas c.loop-at.pos go) in
+    let there = at + r.count in
+    let k = set_single bytes there r.inside r.next.quick.small in
+    let cmd = Set (pos (byte_at bytes there)) in
+    let n = lexed_next one bytes from there (there + 1) cmd listed.0.rest k.0 k.1 k.2 listed.0.lexed in
+    cause_next (TookListed f) (meaning_in f) s0 cs (drop there bytes) (from + there) [] (go.0.taken ++ r.marks) os (at_font id r.here) listed.0 n.0 n.1 cmd n.2 n.3 n.4
+    (inside f.grid f.fonts.now f.nest) (λ at. spot_of f.home at) (from + length bytes) f.base (fault.Canvas c.in-Err.f) (inl tt)
 
 pub frame-loop-at-preserved-in-Some : goal.frame-loop-at-preserved-in-Some
 frame-loop-at-preserved-in-Some g t c =
     let f = c.args.frame.now in
     let bytes = c.args.bytes.now in
-    let q = c.in-Some.ensures in
-    let k = set_single bytes c.loop-at.at c.loop-at-test.true q.small in
-    let cmd = Set (pos (byte_at bytes c.loop-at.at)) in
-    let os = open_at f.base c.loop-at.self.saved.items in
-    let here : State = record { place = c.loop-at.pos; font = c.loop-at.font } in
+    let from = first_of f.home in
     let inv = c.loop-at.invariant in
+    let at = c.loop-at.at in
+    let id = c.in-Some.found.font in
+    let os = open_at f.base c.loop-at.self.saved.items in
     let a = inv.ahead in
+    let acts = acts_in f a.0 in
+    let ahead = subst (λ (o : Option ℕ). Ahead f.fonts.now (scope_in f) acts o (drop at bytes) (from + at)) c.in-Some.ensures.font a.3 in
+    let one = c.one_spelling.ensures in
     let e = c.in-Ok.ensures in
-    let x = ahead_next c.one_spelling.ensures f.fonts.now (scope_in f) (acts_in f a.0) c.loop-at.font bytes (first_of f.home) c.loop-at.at (c.loop-at.at + 1) cmd k.0 k.1 k.2 a.3 in
-    let steps = subst (λ (o : Option ℕ). c.set.new.self.steps ≡ c.loop-at.self.steps + weight (runs f.fonts.now f.nest) o cmd) (sym q.same) e.steps in
-    let ok =
-    subst (λ (o : Option ℕ). FollowsTurn (Took (HasGlyph f.grid f.fonts.now) g.C.Canvas.takes) c.loop-at.canvas c.set.new.canvas (open_at f.base c.set.new.self.saved.items) (record { place = c.set.new.here; font = o }) (turned (meaning_in f) cmd os (record { place = c.loop-at.pos; font = o })))
-    (sym q.same) e.ok in
-    let room = subst (λ (o : Option ℕ). FindsRoom (PacketFinds f.grid f.fonts.now f.nest) f.base cmd os (record { place = c.loop-at.pos; font = o })) (sym q.same) e.room in
+    let end = c.in-Ok.end in
+    let n = end - at in
+    let there : at + n ≡ end = omega (arith, e.further.0) in
+    let b : at + n ≤ length bytes = omega (arith, there, e.further.1) in
+    let ms = e.ok.marks in
+    let behind = c.characters.new.pos in
     record {
-      inside = k.1;
+      inside = e.further.1;
       higher = rw e.stack inv.higher;
       below = ap (take f.base) e.stack ∙ inv.below;
-      same = same_chain g.C.Canvas.can c.args.canvas.now c.loop-at.canvas c.set.new.canvas inv.same e.same;
-      met = e.met;
-      ahead = (a.0, a.1, a.2, x.left);
+      same = same_chain g.C.Canvas.can c.args.canvas.now c.loop-at.canvas c.characters.new.canvas inv.same e.same;
+      met = rw e.met inv.met;
+      ahead = (
+        a.0,
+        a.1,
+        a.2,
+        subst (λ (o : Option ℕ). Ahead f.fonts.now (scope_in f) acts o (drop end bytes) (from + end)) (sym c.in-Some.ensures.font)
+            (subst (λ (k : ℕ). Ahead f.fonts.now (scope_in f) acts (Some id) (drop k bytes) (from + k)) there (ahead_set one f acts id bytes from at n c.loop-at.pos behind ms b e.ok.set ahead)),
+      );
       counted = λ cs l.
-          let r = inv.counted cs l in
-          let n = lexed_next c.one_spelling.ensures bytes (first_of f.home) c.loop-at.at (c.loop-at.at + 1) cmd r.0 k.0 k.1 k.2 r.1 in
-          (n.1, n.5, count_on (runs f.fonts.now f.nest) (select f.fonts.now (scope_in f)) c.loop-at.font r.0 n.1 n.0 cmd c.loop-at.self.steps c.set.new.self.steps (c.args.self.now.steps + count_in f cs) n.2 n.3 r.2 steps);
+          let q = inv.counted cs l in
+          let r = counted_set one f acts id bytes from at n c.loop-at.pos behind ms b e.ok.set ahead (select f.fonts.now (scope_in f)) q.0 q.1 in
+          let old = subst (λ (o : Option ℕ). c.loop-at.self.steps + count_from f.fonts.now f.nest (scope_in f) o q.0 ≡ c.args.self.now.steps + count_in f cs) c.in-Some.ensures.font q.2 in (
+            r.0,
+            subst (λ (k : ℕ). Lexes (from + k) (drop k bytes) r.0) there r.1,
+            subst (λ (o : Option ℕ). c.characters.new.self.steps + count_from f.fonts.now f.nest (scope_in f) o r.0 ≡ c.args.self.now.steps + count_in f cs) (sym c.in-Some.ensures.font) (omega (arith, old, r.2, e.steps, there)),
+          );
       goes = λ cs l.
-          more_room (Took (HasGlyph f.grid f.fonts.now) g.C.Canvas.takes) (took_both (HasGlyph f.grid f.fonts.now) g.C.Canvas.takes g.met.C.Canvas.chains) c.one_spelling.ensures (meaning_in f) (start_in f.fonts.now (program_in f cs) c.args.start) cs bytes (first_of f.home) c.loop-at.at (c.loop-at.at + 1) cmd
-          c.args.canvas.now c.loop-at.canvas c.set.new.canvas os (open_at f.base c.set.new.self.saved.items)
-          here (record { place = c.set.new.here; font = c.loop-at.font })
-          k.0 k.1 k.2 (inv.goes cs l).0 ok (PacketFinds f.grid f.fonts.now f.nest) f.base (inv.goes cs l).1 room;
+          let s0 = start_in f.fonts.now (program_in f cs) c.args.start in
+          let go = going_with f id bytes from at os cs s0 g.C.Canvas.takes c.args.canvas.now c.loop-at.canvas c.loop-at.pos c.loop-at.font c.in-Some.ensures.font (inv.goes cs l) in
+          rw e.stack
+          (going_at f id bytes from (at + n) end os cs s0 g.C.Canvas.takes c.args.canvas.now c.characters.new.canvas behind c.loop-at.font c.in-Some.ensures.font there
+          (goes_set g.C.Canvas.takes g.met.C.Canvas.chains one f acts s0 cs id bytes from at n os c.args.canvas.now c.loop-at.canvas c.characters.new.canvas c.loop-at.pos behind ms b e.ok.set e.ok.took ahead go));
     }
 
 -- ---- characters

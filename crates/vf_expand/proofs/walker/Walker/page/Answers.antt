@@ -1,5 +1,4 @@
-use Rattle.std.proofs.Common.{Result, Ok, Err, ◌≡◌, ◌+◌, List, [], OnOk, IfErr, sym, subst}
-use Rattle.dvi_doc.specs.Document.{PageOf}
+use Rattle.std.proofs.Common.{Result, Ok, Err, ◌≡◌, ◌+◌, [], OnOk, IfErr, sym, subst}
 use Rattle.dvi_doc.specs.declared.page.Page.{Page}
 use Rattle.font_set.specs.Covers.{Covers}
 use Rattle.font_set.specs.Frames.{acts_of}
