@@ -28,9 +28,9 @@ excess_sum f x y n m = omega (arith, ints, sum_times n m f.bottom, sum_times x y
 -- what is told of two excesses tells the sum, where that is small
 pub told_sum : (a b x y : ℤ) → Tells a x → Tells b y → unsigned_abs (a +ℤ b) < 2 ^ 59 → a +ℤ b ≡ x +ℤ y
 told_sum a b x y (inl h) (inl k) small = omega (arith, ints, h.1, k.1)
-told_sum a b x y (inl h) (inr k) small = absurd (omega (arith, ints, h.0, k, small))
-told_sum a b x y (inr h) (inl k) small = absurd (omega (arith, ints, h, k.0, small))
-told_sum a b x y (inr h) (inr k) small = absurd (omega (arith, ints, h, k, small))
+told_sum a b x y (inl h) (inr k) small = absurd (omega (arith, ints, h.0, h.1, k.1, small))
+told_sum a b x y (inr h) (inl k) small = absurd (omega (arith, ints, h.1, k.0, k.1, small))
+told_sum a b x y (inr h) (inr k) small = absurd (omega (arith, ints, h.1, k.1, small))
 
 within_times : (d e b : ℕ) → 2 * (d * b) < (2 * e + 1) * b + b → d ≤ e
 within_times d e b less = le_of_lt_suc d e (lt_of_mul-lt-mul_right b (omega (arith, less)))

@@ -105,7 +105,7 @@ fn product(number: i64, by: u128) -> i128
     ensures value { result ≡ number *ℤ pos by }
     ensures bound { unsigned_abs result < 2 ^ 102 }
 {
-    i128::from(number) * by as i128
+    i128::from(number) * i128::from(by as i64)
 }
 
 impl Conv {

@@ -37,8 +37,8 @@ pixels_small g h hh n reach fine drift is small near =
     omega (arith, ints, clamps, same, bound, small, drift.0, drift.1)
 
 pub told_size : (a x : ℤ) → Tells a x → unsigned_abs a ≤ 2 ^ 61
-told_size a x (inl h) = omega (arith, h.0)
-told_size a x (inr h) = omega (arith, ints, h)
+told_size a x (inl h) = omega (arith, ints, h.0, h.1)
+told_size a x (inr h) = omega (arith, ints, h.1)
 
 -- Behind a character, where what is told is within reach: the excess, the place, and that its numbers aren't too large.
 pub record Within (g : Grid) (p : Place) (w : Wide) (told reach : ℤ) : Type 0 where
@@ -81,4 +81,6 @@ pub sum_told : (g : Grid) (w : Wide) (told x : ℤ) → IsWide g w → Tells tol
 sum_told g w told x wide t = sum_is told w.excess (told_size told x t) (told_size w.excess _ wide.excess)
 
 pub told_there : (g : Grid) (p : Place) (w : Wide) (told reach z : ℤ) → IsReach g.across g.drift reach → Within g p w told reach → z ≡ told +ℤ w.excess → Tells z (excess g.across (p.h +ℤ w.width) (p.hh +ℤ w.pixels))
-told_there g p w told reach z is x e = subst (λ (y : ℤ). Tells y (excess g.across (p.h +ℤ w.width) (p.hh +ℤ w.pixels))) (sym e) (inl (omega (arith, x.small, is.most), x.same))
+told_there g p w told reach z is x e =
+    let small : unsigned_abs (excess g.across (p.h +ℤ w.width) (p.hh +ℤ w.pixels)) ≤ unsigned_abs reach = subst (λ (y : ℤ). unsigned_abs y ≤ unsigned_abs reach) x.same x.small in
+    inl (omega (arith, small, is.most), e ∙ x.same)

@@ -10,7 +10,8 @@ use Rattle.vf_expand.specs.declared.met.Glyphs.{Glyphs}
 use Rattle.vf_expand.specs.declared.met.Met.{Met}
 use Rattle.vf_expand.specs.declared.met.Start.{Start}
 
--- the pixels are those of the width, rounded, and the excess is theirs; the pixels of one unit are as few as a conversion has them
+-- The pixels are those of the width, rounded, and the excess is theirs. That the grid is fine, 2^31 - 1 units fewer than 2^30 pixels, is so of
+-- each conversion: what follows of a place's pixels needs it.
 pub record IsWide (g : Grid) (w : Wide) : Type 0 where
   pub pixels : w.pixels ≡ rounded g.across w.width
   pub excess : Tells w.excess (excess g.across w.width w.pixels)

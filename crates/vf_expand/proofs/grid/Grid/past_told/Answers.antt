@@ -1,10 +1,10 @@
-use Rattle.std.proofs.Common.{◌∙◌, ◌+ℤ◌, sym, ap, subst, to_z, of_z, w64, rules, Some}
-use Rattle.std.proofs.lemmas.Int.{to_z-of_z}
+use Rattle.std.proofs.Common.{◌∙◌, ◌+ℤ◌, sym, ap, subst, to_z, of_z, w64, rules, Some, arith}
+use Rattle.std.proofs.lemmas.Int.{ints, to_z-of_z}
 use Rattle.dv_base.specs.Excess.{Tells, excess}
 use Rattle.positions.specs.Place.{Place, IsPlace}
 use Rattle.positions.specs.Drift.{IsDrift}
 use Rattle.vf_expand.specs.Grid.{Grid}
-use Rattle.vf_expand.proofs.Told.{numbers, sum_told, told_there, within_test}
+use Rattle.vf_expand.proofs.Told.{numbers, told_size, sum_told, told_there, within_test}
 use Rattle.vf_expand.proofs.grid.Grid.past_told.Goals as goal
 
 pub invariant_of-here : goal.invariant_of-here
@@ -38,3 +38,9 @@ returns-then-unsigned_abs-clause-told c =
 
 pub returns-clause-told : goal.returns-clause-told
 returns-clause-told c = let h = c.excess.ensures in search (rules, to_z-of_z, h)
+
+pub overflow_add-sum : goal.overflow_add-sum
+overflow_add-sum c =
+    let told = told_size c.args.told _ c.requires.told in
+    let more = told_size c.args.wide.now.excess _ c.requires.wide.excess in
+    omega (arith, ints, told, more)
