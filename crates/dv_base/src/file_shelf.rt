@@ -5,6 +5,7 @@ ghost use Rattle.dv_base.specs.Shelf.{IsWithin};
 use crate::shelf::{Got, Shelf};
 use std::alloc::Global;
 use std::fs;
+use std::fs::OpenFile;
 use std::io::{ErrorKind, Read};
 use std::rt::Files;
 
@@ -41,22 +42,37 @@ impl<'a, R: Files + Input> FileShelf<'a, R> {
         ensures { IsWithin limit result }
     {
         if name == STANDARD {
-            return read_up_to(alloc, &mut self.rt.reader(), limit);
+            return read_up_to(alloc, &mut self.rt.reader(), 0, limit);
         }
         match fs::open(self.rt, name) {
-            Ok(mut file) => read_up_to(alloc, &mut file, limit),
+            Ok(mut file) => {
+                let size = size_of(&file);
+                read_up_to(alloc, &mut file, size, limit)
+            }
             Err(error) if error.kind() == ErrorKind::NotFound => Got::Absent,
             Err(_) => Got::Failed,
         }
     }
 }
 
-/// Reads to the end, but no more than `limit + 1` bytes: each turn takes at least one.
-fn read_up_to<F: Read>(alloc: Global, from: &mut F, limit: u32) -> Got
+/// How many bytes a file says that it has; 0 where it doesn't say. A pipe says 0, and a file may be written meanwhile.
+fn size_of<F: OpenFile>(file: &F) -> u64 {
+    match file.metadata() {
+        Ok(found) => found.len(),
+        Err(_) => 0,
+    }
+}
+
+/// Reads to the end, but no more than `limit + 1` bytes: each turn takes at least one. There is room for `size` bytes at once, so that
+/// they needn't be moved while more come.
+fn read_up_to<F: Read>(alloc: Global, from: &mut F, size: u64, limit: u32) -> Got
     ensures { IsWithin limit result }
 {
+    let room = size.min(u64::from(limit)) as usize;
     let limit = limit as usize;
-    let mut bytes = Vec::new(alloc);
+    let Ok(mut bytes) = Vec::with_capacity(alloc, room) else {
+        return Got::OutOfMemory;
+    };
     let mut block = [0; 16384];
     while bytes.len() <= limit {
         let most = (limit + 1 - bytes.len()).min(block.len());
