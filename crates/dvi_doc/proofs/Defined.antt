@@ -1,14 +1,13 @@
 -- Definitions by their numbers.
-use Rattle.std.proofs.Common.{◌≡◌, ◌<◌, ◌+◌, ℕ, zero, suc, ℤ, inl, inr, List, [], ◌∷◌, ◌++◌, length, take, drop, refl, sym, ap, subst, ◌∙◌, arith, Bool, true, false, slice_index_or, get_or, IsTrue, ◌↔◌, MatchBool}
+use Rattle.std.proofs.Common.{Option, Some, None, ◌≡◌, ◌<◌, ◌+◌, ℕ, zero, suc, ℤ, inl, inr, List, [], ◌∷◌, ◌++◌, length, take, refl, sym, ap, subst, ◌∙◌, arith, Bool, true, false, slice_index_or, get_or, IsTrue, ◌↔◌, MatchBool}
 use Rattle.std.specs.List.{All, Contains}
-use Rattle.std.proofs.lemmas.List.{take_more, drop_more, take-append-drop}
+use Rattle.std.specs.Option.{is_some}
+use Rattle.std.proofs.lemmas.List.{take_more}
 use Rattle.std.proofs.lemmas.List.Elements.{All-append, All-cons, All-nil}
 use Rattle.dvi_ops.specs.Command.{Definition}
-use Rattle.dvi_doc.specs.Grammar.{Defines, DefinesTwice, AreFonts}
-use Rattle.dvi_doc.specs.Faults.{FontFault}
-use Rattle.dvi_doc.specs.PartFaults.{DefinitionFault}
+use Rattle.dvi_doc.specs.Grammar.{Defines, DefinesTwice, AreFonts, IsNamed, IsSized}
+use Rattle.dvi_doc.specs.PartFaults.{AreJudged, DefinitionFault, SomeFault}
 use Rattle.dvi_doc.specs.declared.fault.DocFault.{DocFault}
-use Rattle.dvi_doc.specs.declared.fault.DocFault.TheVariants as fault
 
 contained : (ds : List Definition) (d : Definition) (k : ℕ) → k < length ds → slice_index_or ds k d ≡ d → Defines ds d.k
 contained [] d k h e = absurd (omega arith)
@@ -35,16 +34,29 @@ in_middle : (xs ys : List Definition) (d : Definition) → Contains (xs ++ d ∷
 in_middle [] ys d = (0, omega arith, refl)
 in_middle (x ∷ xs) ys d = let r = in_middle xs ys d in (suc r.0, omega (arith, r.1), r.2)
 
-all_fault : (xs ys ds : List Definition) (d : Definition) (e : DocFault) → ds ≡ xs ++ d ∷ ys → DefinitionFault d e → FontFault ds e
-all_fault xs ys ds d (fault.BadName k) w h = (d, subst (λ (l : List Definition). Contains l d) (sym w) (in_middle xs ys d), h.0, h.1)
-all_fault xs ys ds d (fault.BadSize k) w h = (d, subst (λ (l : List Definition). Contains l d) (sym w) (in_middle xs ys d), h.0, h.1)
-all_fault xs ys ds d _ w h = absurd h
+contains_more : (xs ys : List Definition) (d : Definition) (i : ℕ) → i < length xs → slice_index_or xs i d ≡ d → Contains (xs ++ ys) d
+contains_more [] ys d i h e = absurd (omega (arith, h))
+contains_more (x ∷ xs) ys d zero h e = (0, omega arith, e)
+contains_more (x ∷ xs) ys d (suc i) h e = let r = contains_more xs ys d i (omega (arith, h)) e in (suc r.0, omega (arith, r.1), r.2)
 
--- what is wrong with the definition at a place
-pub all_fault_at : (ds : List Definition) (i : ℕ) (d : Definition) (e : DocFault) → i < length ds → d ≡ get_or ds i d → DefinitionFault d e → FontFault ds e
-all_fault_at ds i d e h is f =
-    all_fault (take i ds) (drop (i + 1) ds) ds d e
-    (sym (take-append-drop i ds) ∙ ap (λ (l : List Definition). take i ds ++ l) (drop_more ds i d h ∙ ap (λ (x : Definition). x ∷ drop (i + 1) ds) (sym is))) f
+-- one definition more
+pub judged_more : (ds : List Definition) (d : Definition) (e : DocFault) → SomeFault ds e → SomeFault (ds ++ d ∷ []) e
+judged_more ds d e h = (h.0, contains_more ds (d ∷ []) h.0 h.1.0 h.1.1 h.1.2, h.2)
+
+pub judged_new : (ds : List Definition) (d : Definition) (e : DocFault) → DefinitionFault d e → SomeFault (ds ++ d ∷ []) e
+judged_new ds d e h = (d, in_middle ds [] d, h)
+
+pub judged_good : (ds : List Definition) (d : Definition) → All IsNamed ds × All IsSized ds → IsNamed d × IsSized d → All IsNamed (ds ++ d ∷ []) × All IsSized (ds ++ d ∷ [])
+judged_good ds d h one =
+    (All-append IsNamed ds (d ∷ []) h.0 (All-cons IsNamed d [] one.0 (All-nil IsNamed)), All-append IsSized ds (d ∷ []) h.1 (All-cons IsSized d [] one.1 (All-nil IsSized)))
+
+pub judged_some : (o : Option DocFault) (ds : List Definition) (d : Definition) → true ≡ is_some o → AreJudged ds o → AreJudged (ds ++ d ∷ []) o
+judged_some None ds d is h = cc
+judged_some (Some e) ds d is h = judged_more ds d e h
+
+pub judged_none : (o : Option DocFault) (ds : List Definition) → false ≡ is_some o → AreJudged ds o → All IsNamed ds × All IsSized ds
+judged_none None ds is h = h
+judged_none (Some e) ds is h = cc
 
 -- a font of the number is the definition, or none is
 pub has_by : (b : Bool) (ds : List Definition) (x d : Definition) → (IsTrue b ↔ (x ≡ d)) → Contains ds x → AreFonts ds → x.k ≡ d.k → MatchBool b (Contains ds d) (Contains ds d → ⊥)

@@ -18,6 +18,7 @@ use Rattle.dvi_doc.specs.declared.fault.DocFault.{DocFault}
 use Rattle.dvi_doc.specs.declared.fault.DocFault.TheVariants as fault
 use Rattle.dvi_doc.specs.PartFaults.{BackFault}
 use Rattle.dvi_doc.specs.Faults.{FaultIn, TrailerAt, IsBadOrder}
+use Rattle.dvi_doc.specs.Standing.{HoldsEnding}
 use Rattle.dvi_doc.specs.Steps.{EndsAt}
 use Rattle.dvi_doc.proofs.Lexing.{lex_more}
 use Rattle.dvi_doc.proofs.Leading.{filler_between, filler_behind, inner_inside}
@@ -132,10 +133,6 @@ page_none bytes start old =
     ([], tt, ap (λ (n : ℕ). take n (drop start bytes)) none, sym (append-nil old))
 
 -- ---- the commands behind post so far
-
-abbrev pub HoldsEnding : List ℕ → ℕ → ℕ → List Definition → Type 0
-HoldsEnding bytes start at defs =
-    (cs : List Placed) × AllFillers cs × Lexes start (slice_range bytes start at) cs × (definitions_of cs ≡ defs)
 
 pub ending_more : (bytes : List ℕ) (start at end : ℕ) (c : Command) (old new : List Definition) → start ≤ at → SpelledTo bytes at end c → IsFiller c → new ≡ old ++ put_definition c [] → HoldsEnding bytes start at old → HoldsEnding bytes start end new
 ending_more bytes start at end c old new le s i e h = (

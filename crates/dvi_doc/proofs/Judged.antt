@@ -1,5 +1,5 @@
 -- A file's parts compared with one another: a document, or a fault.
-use Rattle.std.proofs.Common.{Bor, Option, None, MatchOption, IfSome, ◌≡◌, ◌≤◌, ◌<◌, ◌+◌, ◌-◌, ◌%◌, ℕ, zero, suc, ℤ, pos, negsuc, List, [], ◌∷◌, ◌++◌, length, map, take, drop, refl, sym, ap, subst, ◌∙◌, arith, slice_range, get_or, Some, length-append}
+use Rattle.std.proofs.Common.{Option, None, MatchOption, IfSome, ◌≡◌, ◌≤◌, ◌<◌, ◌+◌, ◌-◌, ◌%◌, ℕ, zero, suc, ℤ, pos, negsuc, List, [], ◌∷◌, ◌++◌, length, map, take, drop, refl, sym, ap, subst, ◌∙◌, arith, slice_range, get_or, Some, length-append}
 use Rattle.std.specs.Prelude.{slice_get}
 use Rattle.std.specs.List.{All, Contains}
 use Rattle.std.proofs.lemmas.List.{length-map, append_assoc, drop_at, length-drop}
@@ -22,14 +22,14 @@ use Rattle.dvi_doc.specs.declared.parts.Parts.{Parts}
 use Rattle.dvi_doc.specs.declared.fault.DocFault.{DocFault}
 use Rattle.dvi_doc.specs.declared.fault.DocFault.TheVariants as fault
 
-pub font_fault : (bytes : List ℕ) (p : Parts) (e : DocFault) → FoundParts bytes p → FontFault p.fonts.items e → FaultIn bytes e
+pub font_fault : (bytes : List ℕ) (p : Parts) (e : DocFault) → FoundParts bytes p → FontFault p.fonts e → FaultIn bytes e
 font_fault bytes p (fault.FontTwice k) f h = (f.0, f.1, subst (λ (ds : List Definition). DefinesTwice ds k) f.2.4 h)
 font_fault bytes p (fault.BadName k) f h = (f.0, f.1, subst (λ (ds : List Definition). SomeFont ds k IsNamed) f.2.4 h)
 font_fault bytes p (fault.BadSize k) f h = (f.0, f.1, subst (λ (ds : List Definition). SomeFont ds k IsSized) f.2.4 h)
 font_fault bytes p fault.OutOfMemory f h = tt
 font_fault bytes p _ f h = absurd h
 
-pub differs_fault : (bytes : List ℕ) (p : Parts) (fonts : List Definition) (e : DocFault) → FoundParts bytes p → fonts ≡ p.fonts.items → Differs fonts p.body.earlier.items e → FaultIn bytes e
+pub differs_fault : (bytes : List ℕ) (p : Parts) (fonts : List Definition) (e : DocFault) → FoundParts bytes p → fonts ≡ p.fonts → Differs fonts p.body.earlier.items e → FaultIn bytes e
 differs_fault bytes p fonts (fault.FontDiffers k) f w h = (
   f.0,
   f.1,
@@ -49,7 +49,7 @@ tail_fault bytes p pages fault.PostDiffers f w h =
     (f.0, f.1, subst (λ (t : Postamble). SameUnits (document_of f.0).head t → ⊥) f.2.3 (subst (λ (d : Preamble). SameUnits d (tail_view p.body.tail) → ⊥) f.2.0 h))
 tail_fault bytes p pages _ f w h = absurd h
 
-pub doc_found : (bytes : List ℕ) (p : Parts) (fonts : List Definition) (pages : ℕ) → FoundParts bytes p → fonts ≡ p.fonts.items → AreFonts fonts → AllAmong fonts p.body.earlier.items → pages ≡ length p.body.pages.items → (pages % 65536 ≡ p.body.tail.pages) × SameUnits (head_view p.head) (tail_view p.body.tail) →
+pub doc_found : (bytes : List ℕ) (p : Parts) (fonts : List Definition) (pages : ℕ) → FoundParts bytes p → fonts ≡ p.fonts → AreFonts fonts → AllAmong fonts p.body.earlier.items → pages ≡ length p.body.pages.items → (pages % 65536 ≡ p.body.tail.pages) × SameUnits (head_view p.head) (tail_view p.body.tail) →
     IsRead (record { bytes = bytes; head = head_view p.head; pages = map page_view p.body.pages.items; tail = tail_view p.body.tail; fonts = fonts })
 doc_found bytes p fonts pages f w good among n tail =
     let doc = document_of f.0 in
@@ -171,6 +171,6 @@ pub body_bytes : (pages : List Page) (k : ℕ) (x : Page) → k < length pages �
 body_bytes pages k x h g = map_get pages k x h g
 
 -- a font that is found is as all are
-pub found_good : (P : Definition → Type 0) (o : Option (Bor Definition)) (ds : List Definition) (k : ℤ) → MatchOption o (Defines ds k → ⊥) (λ font. Contains ds font.now × (font.now.k ≡ k)) → All P ds → IfSome o (λ font. P font.now)
+pub found_good : (P : Definition → Type 0) (o : Option Definition) (ds : List Definition) (k : ℤ) → MatchOption o (Defines ds k → ⊥) (λ font. Contains ds font × (font.k ≡ k)) → All P ds → IfSome o P
 found_good P None ds k h all = tt
-found_good P (Some font) ds k h all = subst P h.0.2 (all h.0.0 font.now h.0.1)
+found_good P (Some font) ds k h all = subst P h.0.2 (all h.0.0 font h.0.1)

@@ -8,7 +8,6 @@ pub mod Further
 pub mod Passing
 pub mod Gathered
 pub mod Defined
-pub mod Numbering
-pub mod Rising
+pub mod Standing
 pub mod Judged
 pub mod Comments

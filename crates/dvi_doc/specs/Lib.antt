@@ -4,6 +4,6 @@ pub mod Order
 pub mod View
 pub mod Faults
 pub mod PartFaults
+pub mod Standing
 pub mod Steps
 pub mod Laws
-pub mod Rising

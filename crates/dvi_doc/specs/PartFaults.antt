@@ -1,6 +1,6 @@
 -- What the parts of the reader find wrong, each in what it reads. No public clause cites this module.
-use Rattle.std.specs.Prelude.{◌≡◌, ◌<◌, ◌≤◌, ◌-◌, ◌%◌, ℕ, ℤ, List, length}
-use Rattle.std.specs.List.{Contains}
+use Rattle.std.specs.Prelude.{◌≡◌, ◌<◌, ◌≤◌, ◌-◌, ◌%◌, ℕ, ℤ, List, length, Option, Some, None}
+use Rattle.std.specs.List.{All, Contains}
 use Rattle.dvi_ops.specs.Command.{Definition, Preamble, Postamble}
 use Rattle.dvi_ops.specs.Spelling.{byte_at}
 use Rattle.dvi_doc.specs.Grammar.{IsNamed, IsSized, SameUnits}
@@ -13,6 +13,15 @@ abbrev pub DefinitionFault : Definition → DocFault → Type 0
 DefinitionFault d (fault.BadName k) = (d.k ≡ k) × (IsNamed d → ⊥)
 DefinitionFault d (fault.BadSize k) = (d.k ≡ k) × (IsSized d → ⊥)
 DefinitionFault d _ = ⊥
+
+-- what is wrong with one of the definitions
+abbrev pub SomeFault : List Definition → DocFault → Type 0
+SomeFault ds e = (d : Definition) × Contains ds d × DefinitionFault d e
+
+-- All of the definitions are as they should be, or the fault is true of one.
+abbrev pub AreJudged : List Definition → Option DocFault → Type 0
+AreJudged ds None = All IsNamed ds × All IsSized ds
+AreJudged ds (Some e) = SomeFault ds e
 
 -- all bytes from this place on are 223, and the one before it isn't
 abbrev pub FillsFrom : List ℕ → ℕ → Type 0

@@ -5,9 +5,10 @@ use Rattle.dvi_ops.specs.Command.Command.{Eop, Post, PostPost}
 use Rattle.dvi_ops.specs.View.{head_view, tail_view}
 use Rattle.dvi_ops.specs.Placed.{Placed, Lexes}
 use Rattle.dvi_doc.specs.Document.{Item, File, Document, between, last_bop, pages_of, put_definition, definitions_of, definitions_before, document_of}
-use Rattle.dvi_doc.specs.Grammar.{IsInner, AllInner, AllFillers, AllItems, IsFile}
+use Rattle.dvi_doc.specs.Grammar.{IsInner, AllInner, AllItems, IsFile}
 use Rattle.dvi_doc.specs.Order.{Reaches, reading, SpelledTo}
 use Rattle.dvi_doc.specs.Order.Part.{Between, Inside, Behind}
+use Rattle.dvi_doc.specs.Standing.{HoldsEnding}
 use Rattle.dvi_doc.specs.View.{outline, page_view}
 use Rattle.dvi_doc.specs.Faults.{TrailerAt}
 use Rattle.dvi_doc.specs.declared.page.Page.{Page}
@@ -51,14 +52,14 @@ FoundBody bytes start ends b =
 -- From start to ends stand fillers with these definitions.
 abbrev pub FoundEnding : List ℕ → ℕ → ℕ → List Definition → Type 0
 FoundEnding bytes start ends defs =
-    ((cs : List Placed) × AllFillers cs × Lexes start (slice_range bytes start ends) cs × (definitions_of cs ≡ defs))
+    HoldsEnding bytes start ends defs
     × ((last : ℤ) (post : ℕ) → Reaches bytes start (reading Behind last post) → Reaches bytes ends (reading Behind last post))
 
 -- the document's parts as they were found
 abbrev pub PartsOf : Parts → Document → Type 0
 PartsOf p doc =
     (head_view p.head ≡ doc.head) × (map page_view p.body.pages.items ≡ map outline doc.pages) × (p.body.earlier.items ≡ doc.before)
-    × (tail_view p.body.tail ≡ doc.tail) × (p.fonts.items ≡ doc.fonts)
+    × (tail_view p.body.tail ≡ doc.tail) × (p.fonts ≡ doc.fonts)
 
 -- the bytes are a file's, with these parts
 abbrev pub FoundParts : List ℕ → Parts → Type 0

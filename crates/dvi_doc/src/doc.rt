@@ -8,6 +8,7 @@ ghost use Rattle.dvi_doc.specs.Grammar.{IsDoc, NoDoc, AllInner, Defines, IsNamed
 ghost use Rattle.dvi_doc.specs.View.{IsRead, Outline, outline, page_view};
 ghost use Rattle.dvi_doc.specs.Faults.{FaultIn, NoneBut};
 
+use crate::definitions::Definitions;
 use crate::fault::DocFault;
 use crate::font_def::FontDef;
 use crate::fonts::Fonts;
@@ -56,7 +57,7 @@ impl<'a> Doc<'a> {
     {
         one_spelling();
         let parts = read_parts(alloc, bytes)?;
-        let fonts = Fonts::new(alloc, parts.fonts)?;
+        let fonts = Fonts::new(parts.fonts)?;
         fonts.check(&parts.body.earlier)?;
         check_tail(&parts.head, &parts.body.tail, parts.body.pages.len())?;
         Ok(Doc {
@@ -103,17 +104,17 @@ impl<'a> Doc<'a> {
     }
 
     /// The font that the postamble defines by this number; `None` exactly where it defines none.
-    pub fn font(&self, k: i64) -> Option<&FontDef<'a>>
-        ensures found { MatchOption result (Defines self.now.fonts k → ⊥) (λ font. Contains self.now.fonts font.now × (font.now.k ≡ k)) }
-        ensures named { IfSome result (λ font. IsNamed font.now) }
-        ensures sized { IfSome result (λ font. IsSized font.now) }
+    pub fn font(&self, k: i64) -> Option<FontDef<'a>>
+        ensures found { MatchOption result (Defines self.now.fonts k → ⊥) (λ font. Contains self.now.fonts font × (font.k ≡ k)) }
+        ensures named { IfSome result (λ font. IsNamed font) }
+        ensures sized { IfSome result (λ font. IsSized font) }
     {
         self.fonts.get(k)
     }
 
     /// The fonts in the order in which the postamble defines them.
-    pub fn fonts(&self) -> &[FontDef<'a>]
-        ensures fonts { result.now ≡ self.now.fonts }
+    pub fn fonts(&self) -> Definitions<'a>
+        ensures fonts { result ≡ self.now.fonts }
         ensures named { All IsNamed self.now.fonts }
         ensures sized { All IsSized self.now.fonts }
     {

@@ -12,11 +12,13 @@
 //! ```
 #![tactic(auto)]
 
+mod definitions;
 mod doc;
 mod fault;
 mod font;
 mod font_def;
 mod fonts;
+mod found;
 mod front;
 mod laws;
 mod page;
@@ -27,6 +29,7 @@ mod step;
 mod tail;
 mod trailer;
 
+pub use definitions::Definitions;
 pub use doc::Doc;
 pub use fault::DocFault;
 pub use font::FontKey;

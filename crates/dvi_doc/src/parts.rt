@@ -4,7 +4,7 @@ ghost use Rattle.dvi_doc.specs.Faults.{FaultIn};
 ghost use Rattle.dvi_doc.specs.Steps.{FoundParts};
 
 use crate::fault::DocFault;
-use crate::font_def::FontDef;
+use crate::found::Found;
 use crate::front::read_preamble;
 use crate::pages::{Body, read_pages};
 use crate::postamble::read_postamble;
@@ -20,13 +20,12 @@ pub struct Parts<'a> {
     /// Pages and `post`.
     pub body: Body<'a>,
     /// The definitions behind `post`.
-    pub fonts: Vec<FontDef<'a>>,
+    pub fonts: Found<'a>,
 }
 
 /// Reads a file from its end and then from its start, up to its end again.
 pub fn read_parts<'a>(alloc: Global, bytes: &'a [u8]) -> Result<Parts<'a>, DocFault>
     requires { length bytes.now ≤ 2 ^ 26 }
-    ensures few { IfOk result (λ parts. length parts.fonts.items ≤ length bytes.now) }
     ensures found { IfOk result (FoundParts bytes.now) }
     ensures fault { IfErr result (FaultIn bytes.now) }
 {

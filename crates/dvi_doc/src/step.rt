@@ -1,6 +1,6 @@
 //! One command further in a file whose end is known.
-ghost use Rattle.std.specs.Prelude.{◌≡◌, ◌≤◌, ◌<◌, ◌^◌, ℕ, [], length, IfOk, IfErr, IfSome};
-ghost use Rattle.dvi_ops.specs.Command.{Command};
+ghost use Rattle.std.specs.Prelude.{◌≡◌, ◌≤◌, ◌<◌, ◌^◌, ℕ, [], length, IfOk, IfErr, IfSome, MatchOption};
+ghost use Rattle.dvi_ops.specs.Command.{Command, Definition};
 ghost use Rattle.dvi_ops.specs.Command.Command.{FntDef};
 ghost use Rattle.dvi_doc.specs.Document.{put_definition};
 ghost use Rattle.dvi_doc.specs.Grammar.{IsInner};
@@ -11,7 +11,7 @@ ghost use Rattle.dvi_doc.specs.Steps.{EndsAt, PassedTo};
 
 use crate::fault::DocFault;
 use crate::font_def::FontDef;
-use dvi_ops::{Cmd, OpFault, definition_end, next_cmd, pass};
+use dvi_ops::{Cmd, OpFault, definition_end, next_cmd, one_spelling, pass};
 
 /// The command at a place that reading came to, and the place behind it, which isn't past the trailer's `post_post`.
 pub fn read_command(bytes: &[u8], at: usize, ends: usize) -> Result<(Cmd<'_>, usize), DocFault>
@@ -66,14 +66,15 @@ pub fn pass_commands(bytes: &[u8], start: usize, ends: usize) -> usize
     at
 }
 
-/// The font definition at a place, and the place behind it, where one stands there that ends before the trailer's `post_post`; `None`
-/// elsewhere. [`read_command`] tells what else stands there.
+/// The font definition at a place, and the place behind it; `None` exactly where none stands there that ends before the trailer's
+/// `post_post`. [`read_command`] tells what else stands there.
 #[inline(always)]
 pub fn pass_definition(bytes: &[u8], at: usize, ends: usize) -> Option<(FontDef<'_>, usize)>
     requires before { at < ends }
     requires inside { ends ≤ length bytes.now }
-    ensures { IfSome result (λ r. SpelledTo bytes.now at r.1 (FntDef r.0) × (r.1 ≤ ends)) }
+    ensures { MatchOption result ((d : Definition) (end : ℕ) → SpelledTo bytes.now at end (FntDef d) → end ≤ ends → ⊥) (λ r. SpelledTo bytes.now at r.1 (FntDef r.0) × (r.1 ≤ ends)) }
 {
+    one_spelling();
     let end = definition_end(bytes, at)?;
     if end <= ends {
         Some((FontDef::between(bytes, at, end), end))

@@ -68,7 +68,14 @@ fn shown(alloc: Global, bytes: &[u8]) -> Result<String, Fail>
 {
     match Doc::read(alloc, bytes) {
         Ok(doc) => {
-            let mut text = format!(in alloc; "{} fonts:", doc.fonts().len())?;
+            let mut text = format!(in alloc; "fonts")?;
+            let mut fonts = doc.fonts();
+            for _ in 0..3 {
+                if let Some(font) = fonts.next() {
+                    text.push_str(&format!(in alloc; " {}", font.k())?)?;
+                }
+            }
+            text.push_str(":")?;
             for page in doc.pages() {
                 text.push_str(&format!(in alloc; " {} {} {}", page.at, page.first, page.eop)?)?;
             }
@@ -81,10 +88,10 @@ fn shown(alloc: Global, bytes: &[u8]) -> Result<String, Fail>
 #[test]
 fn whole_documents(rt: HostRuntime) -> Result<(), Fail> {
     let cases: [(&[u8], &str); 6] = [
-        (&ONE, "1 fonts: 15 60 83"),
-        (&RULE, "0 fonts: 15 60 87"),
-        (&EMPTY, "0 fonts:"),
-        (&THREE, "2 fonts: 36 81 83 106 151 154 155 200 200"),
+        (&ONE, "fonts 0: 15 60 83"),
+        (&RULE, "fonts: 15 60 87"),
+        (&EMPTY, "fonts:"),
+        (&THREE, "fonts 7 0: 36 81 83 106 151 154 155 200 200"),
         (&TWICE, "FontTwice { k: 0 }"),
         (&EARLY, "BadOrder { at: 44 }"),
     ];
@@ -188,7 +195,6 @@ fn parts_of_a_document(rt: HostRuntime) -> Result<(), Fail> {
         (font.k(), key.checksum, key.size, key.design),
         (0, 0, 655_360, 655_360)
     );
-    assert_eq!(rt; doc.fonts().len(), 1);
     Ok(())
 }
 

@@ -1,11 +1,13 @@
--- What bytes that spell a definition begin with, and that they spell no other.
-use Rattle.std.proofs.Common.{◌≡◌, ◌≤◌, ◌<◌, ◌+◌, ◌-◌, inl, inr, ℕ, List, [], ◌∷◌, length, drop, slice_index, Bool, true, false, nat_lt, if◌then◌else◌, sym, ap, subst, ◌∙◌, arith}
+-- What bytes that spell a definition begin with, that they spell no other, and where none stands.
+use Rattle.std.proofs.Common.{◌≡◌, ◌≤◌, ◌<◌, ◌+◌, ◌-◌, inl, inr, ℕ, List, [], ◌∷◌, length, drop, slice_index, slice_range, Bool, true, false, nat_lt, if◌then◌else◌, sym, ap, subst, ◌∙◌, arith}
 use Rattle.std.proofs.lemmas.Bool.{cases_lt}
 use Rattle.std.proofs.lemmas.Bool.Decides.{nat_tests}
+use Rattle.std.proofs.lemmas.List.{get_or-take, get_or-drop, take-append-drop}
 use Rattle.dvi_ops.specs.Command.{Command, Definition}
 use Rattle.dvi_ops.specs.Command.Command.{FntDef}
 use Rattle.dvi_ops.specs.Defined.{defined, IsDefinition}
-use Rattle.dvi_ops.specs.Spelling.{Spell, low, motion, high, meaning}
+use Rattle.dvi_ops.specs.Spelling.{Spell, low, motion, high, meaning, byte_at}
+use Rattle.dvi_ops.specs.View.{NoSpelling}
 use Rattle.dvi_ops.proofs.Texts.{len_of_def, meaning_of_def}
 
 -- any command but a definition
@@ -85,3 +87,19 @@ bytes_of [] s = absurd s
 bytes_of (op ∷ args) s =
     let b = byte_of op args (defined (op ∷ args)) s.2 in
     (omega arith, b.0, b.1, omega (arith, s.1, b.0, b.1, len_of_def op b.0 b.1))
+
+-- ---- where none stands
+
+-- the operation byte at a place from which a definition is spelled
+pub begins : (bytes : List ℕ) (at end : ℕ) (d : Definition) → at < end → Spell (FntDef d) (slice_range bytes at end) → (243 ≤ byte_at bytes at) × (byte_at bytes at < 247)
+begins bytes at end d h s =
+    let front = slice_range bytes at end in
+    let b = bytes_of front (is_definition front d s) in
+    let first : slice_index front 0 ≡ byte_at bytes at =
+    get_or-take (end - at) (drop at bytes) 0 0 (omega (arith, h)) ∙ get_or-drop at bytes 0 0 ∙ ap (slice_index bytes) (omega arith) in
+    (omega (arith, b.1, first), omega (arith, b.2, first))
+
+-- from a place where no command is spelled, no definition is
+pub none_from : (bytes : List ℕ) (at : ℕ) → NoSpelling bytes at → (d : Definition) (end : ℕ) → Spell (FntDef d) (slice_range bytes at end) → ⊥
+none_from bytes at none d end s =
+    none (FntDef d) (slice_range bytes at end) (drop (end - at) (drop at bytes)) (sym (take-append-drop (end - at) (drop at bytes))) s

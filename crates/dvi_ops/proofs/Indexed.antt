@@ -1,5 +1,5 @@
 -- Words in order: the pairs that they hold.
-use Rattle.std.proofs.Common.{◌≡◌, ◌<◌, ◌≤◌, ◌+◌, ◌/◌, ◌%◌, ◌^◌, ◌-ℤ◌, ◌≤ℤ◌, ℕ, zero, suc, ℤ, pos, List, [], ◌∷◌, length, map, get_or, Bool, true, false, nat_lt, arith, refl, sym, ap, ◌∙◌, ltb-true, ltb-false}
+use Rattle.std.proofs.Common.{◌≡◌, ◌<◌, ◌≤◌, ◌+◌, ◌/◌, ◌^◌, ◌-ℤ◌, ◌≤ℤ◌, ℕ, zero, suc, ℤ, pos, List, [], ◌∷◌, length, map, get_or, Bool, true, false, nat_lt, arith, refl, sym, ap, ◌∙◌, ltb-true, ltb-false}
 use Rattle.std.specs.List.{Contains}
 use Rattle.std.specs.List.Sorted.{IsPartitionPoint, IsPartitionedBy, IsNonDecreasing}
 use Rattle.std.specs.Prelude.{int_lt}

@@ -1,4 +1,4 @@
--- What an index finds of the numbers that it was made of.
+-- What an index finds of the pairs that it was made of.
 use Rattle.std.proofs.Common.{◌≡◌, ◌<◌, ◌≤◌, ◌+◌, ℕ, zero, suc, ℤ, inl, inr, List, [], ◌∷◌, ◌++◌, length, Bool, true, false, if◌then◌else◌, slice_index_or, refl, sym, ap, subst, ◌∙◌, arith}
 use Rattle.std.specs.List.{Contains, sum_by}
 use Rattle.std.specs.List.Sorted.{IsPermutation}
@@ -7,7 +7,7 @@ use Rattle.std.proofs.lemmas.Bool.Decides.{Decides-int_eq}
 use Rattle.std.proofs.lemmas.List.Sums.{sum_by-cons}
 use Rattle.std.proofs.lemmas.List.Sorted.{Contains-permutation, IsPermutation-sym, sum_by-IsPermutation}
 use Rattle.dvi_ops.specs.NumberIndex.{number_at, StandsTwice}
-use Rattle.dvi_ops.specs.Numbered.{Has, HasTwice, numbered}
+use Rattle.dvi_ops.specs.Numbered.{Has, HasTwice, numbered, numbers_in}
 
 -- ---- how many have a number
 
@@ -57,61 +57,78 @@ there_twice (a ∷ pairs) k i zero n l e f = absurd (omega (arith, n))
 there_twice (a ∷ pairs) k zero (suc j) n l e f = omega (arith, met k a pairs e, there_once pairs k j (omega (arith, l)) f)
 there_twice (a ∷ pairs) k (suc i) (suc j) n l e f = omega (arith, there_twice pairs k i j (omega (arith, n)) (omega (arith, l)) e f, fewer k a pairs)
 
--- among numbers in their order
-had_once : (ns : List ℤ) (at : ℕ) (k : ℤ) → 1 ≤ times k (numbered at ns) → Has ns k
-had_once [] at k h = absurd (omega (arith, h))
-had_once (n ∷ ns) at k h = by (int_eq n k) refl (λ g. had_once ns (suc at) k g) where
-  by : (b : Bool) → int_eq n k ≡ b → (1 ≤ times k (numbered (suc at) ns) → Has ns k) → Has (n ∷ ns) k
-  by true e more = inl ((Decides-int_eq n k).0 e)
-  by false e more = inr (more (subst (λ (m : ℕ). 1 ≤ m) (missed k (n, at) (numbered (suc at) ns) e) h))
+-- among pairs in their order
+had_once : (pairs : List (ℤ × ℕ)) (k : ℤ) → 1 ≤ times k pairs → Has (numbers_in pairs) k
+had_once [] k h = absurd (omega (arith, h))
+had_once (a ∷ pairs) k h = by (int_eq a.0 k) refl (λ g. had_once pairs k g) where
+  by : (b : Bool) → int_eq a.0 k ≡ b → (1 ≤ times k pairs → Has (numbers_in pairs) k) → Has (numbers_in (a ∷ pairs)) k
+  by true e more = inl ((Decides-int_eq a.0 k).0 e)
+  by false e more = inr (more (subst (λ (m : ℕ). 1 ≤ m) (missed k a pairs e) h))
 
-had_twice : (ns : List ℤ) (at : ℕ) (k : ℤ) → 2 ≤ times k (numbered at ns) → HasTwice ns k
-had_twice [] at k h = absurd (omega (arith, h))
-had_twice (n ∷ ns) at k h = by (int_eq n k) refl (λ g. had_twice ns (suc at) k g) where
-  by : (b : Bool) → int_eq n k ≡ b → (2 ≤ times k (numbered (suc at) ns) → HasTwice ns k) → HasTwice (n ∷ ns) k
-  by true e more =
-      let same = (Decides-int_eq n k).0 e in
-      inl (same, had_once ns (suc at) k (omega (arith, h, met k (n, at) (numbered (suc at) ns) same)))
-  by false e more = inr (more (subst (λ (m : ℕ). 2 ≤ m) (missed k (n, at) (numbered (suc at) ns) e) h))
+had_twice : (pairs : List (ℤ × ℕ)) (k : ℤ) → 2 ≤ times k pairs → HasTwice (numbers_in pairs) k
+had_twice [] k h = absurd (omega (arith, h))
+had_twice (a ∷ pairs) k h = by (int_eq a.0 k) refl (λ g. had_twice pairs k g) where
+  by : (b : Bool) → int_eq a.0 k ≡ b → (2 ≤ times k pairs → HasTwice (numbers_in pairs) k) → HasTwice (numbers_in (a ∷ pairs)) k
+  by true e more = let same = (Decides-int_eq a.0 k).0 e in inl (same, had_once pairs k (omega (arith, h, met k a pairs same)))
+  by false e more = inr (more (subst (λ (m : ℕ). 2 ≤ m) (missed k a pairs e) h))
 
-once_had : (ns : List ℤ) (at : ℕ) (k : ℤ) → Has ns k → 1 ≤ times k (numbered at ns)
-once_had [] at k h = absurd h
-once_had (n ∷ ns) at k h =
+once_had : (pairs : List (ℤ × ℕ)) (k : ℤ) → Has (numbers_in pairs) k → 1 ≤ times k pairs
+once_had [] k h = absurd h
+once_had (a ∷ pairs) k h =
     elim h [
-      | inl e ↦ omega (arith, met k (n, at) (numbered (suc at) ns) e)
-      | inr g ↦ omega (arith, once_had ns (suc at) k g, fewer k (n, at) (numbered (suc at) ns))
+      | inl e ↦ omega (arith, met k a pairs e)
+      | inr g ↦ omega (arith, once_had pairs k g, fewer k a pairs)
     ]
 
-twice_had : (ns : List ℤ) (at : ℕ) (k : ℤ) → HasTwice ns k → 2 ≤ times k (numbered at ns)
-twice_had [] at k h = absurd h
-twice_had (n ∷ ns) at k h =
+twice_had : (pairs : List (ℤ × ℕ)) (k : ℤ) → HasTwice (numbers_in pairs) k → 2 ≤ times k pairs
+twice_had [] k h = absurd h
+twice_had (a ∷ pairs) k h =
     elim h [
-      | inl e ↦ omega (arith, met k (n, at) (numbered (suc at) ns) e.0, once_had ns (suc at) k e.1)
-      | inr g ↦ omega (arith, twice_had ns (suc at) k g, fewer k (n, at) (numbered (suc at) ns))
+      | inl e ↦ omega (arith, met k a pairs e.0, once_had pairs k e.1)
+      | inr g ↦ omega (arith, twice_had pairs k g, fewer k a pairs)
     ]
+
+-- ---- what an index of any pairs finds
 
 -- a number that stands twice in the index is had twice, and where none does, none is
-pub twice_of : (ns : List ℤ) (index : List (ℤ × ℕ)) (k : ℤ) → IsPermutation (numbered 0 ns) index → StandsTwice index k → HasTwice ns k
-twice_of ns index k same h =
-    had_twice ns 0 k (subst (λ (n : ℕ). 2 ≤ n) (sum_by-IsPermutation (one_of k) (numbered 0 ns) index same) (there_twice index k h.0 h.1 h.2 h.3 h.4 h.5))
+pub twice_in : (pairs index : List (ℤ × ℕ)) (k : ℤ) → IsPermutation pairs index → StandsTwice index k → HasTwice (numbers_in pairs) k
+twice_in pairs index k same h =
+    had_twice pairs k (subst (λ (n : ℕ). 2 ≤ n) (sum_by-IsPermutation (one_of k) pairs index same) (there_twice index k h.0 h.1 h.2 h.3 h.4 h.5))
 
-pub once_of : (ns : List ℤ) (index : List (ℤ × ℕ)) → IsPermutation (numbered 0 ns) index → ((k : ℤ) → StandsTwice index k → ⊥) → (k : ℤ) → HasTwice ns k → ⊥
-once_of ns index same none k h =
-    none k (twice_there index k (subst (λ (n : ℕ). 2 ≤ n) (sym (sum_by-IsPermutation (one_of k) (numbered 0 ns) index same)) (twice_had ns 0 k h)))
+pub once_in : (pairs index : List (ℤ × ℕ)) → IsPermutation pairs index → ((k : ℤ) → StandsTwice index k → ⊥) → (k : ℤ) → HasTwice (numbers_in pairs) k → ⊥
+once_in pairs index same none k h =
+    none k (twice_there index k (subst (λ (n : ℕ). 2 ≤ n) (sym (sum_by-IsPermutation (one_of k) pairs index same)) (twice_had pairs k h)))
 
--- ---- where a number stands
-
-listed : (ns : List ℤ) (at : ℕ) (k : ℤ) → Has ns k → (place : ℕ) × Contains (numbered at ns) (k, place)
-listed [] at k h = absurd h
-listed (n ∷ ns) at k h =
+listed : (pairs : List (ℤ × ℕ)) (k : ℤ) → Has (numbers_in pairs) k → (place : ℕ) × Contains pairs (k, place)
+listed [] k h = absurd h
+listed (a ∷ pairs) k h =
     elim h [
-      | inl e ↦ (at, (0, omega arith, ap (λ (m : ℤ). (m, at)) e))
-      | inr g ↦ (let r = listed ns (suc at) k g in (r.0, (suc r.1.0, omega (arith, r.1.1), r.1.2)))
+      | inl e ↦ (a.1, (0, omega arith, ap (λ (m : ℤ). (m, a.1)) e))
+      | inr g ↦ (let r = listed pairs k g in (r.0, (suc r.1.0, omega (arith, r.1.1), r.1.2)))
     ]
 
 -- a number that isn't in the index is none of them
+pub none_in : (pairs index : List (ℤ × ℕ)) (k : ℤ) → IsPermutation pairs index → ((place : ℕ) → Contains index (k, place) → ⊥) → Has (numbers_in pairs) k → ⊥
+none_in pairs index k same none h = let r = listed pairs k h in none r.0 (Contains-permutation pairs index (k, r.0) same r.1)
+
+-- a pair in the index is one of them
+pub contained_in : (pairs index : List (ℤ × ℕ)) (k : ℤ) (place : ℕ) → IsPermutation pairs index → Contains index (k, place) → Contains pairs (k, place)
+contained_in pairs index k place same h = Contains-permutation index pairs (k, place) (IsPermutation-sym pairs index same) h
+
+-- ---- what an index of numbers with the places 0, 1, 2 and so on finds
+
+numbers_in-numbered : (ns : List ℤ) (at : ℕ) → numbers_in (numbered at ns) ≡ ns
+numbers_in-numbered [] at = refl
+numbers_in-numbered (n ∷ ns) at = ap (λ (l : List ℤ). n ∷ l) (numbers_in-numbered ns (suc at))
+
+pub twice_of : (ns : List ℤ) (index : List (ℤ × ℕ)) (k : ℤ) → IsPermutation (numbered 0 ns) index → StandsTwice index k → HasTwice ns k
+twice_of ns index k same h = subst (λ (l : List ℤ). HasTwice l k) (numbers_in-numbered ns 0) (twice_in (numbered 0 ns) index k same h)
+
+pub once_of : (ns : List ℤ) (index : List (ℤ × ℕ)) → IsPermutation (numbered 0 ns) index → ((k : ℤ) → StandsTwice index k → ⊥) → (k : ℤ) → HasTwice ns k → ⊥
+once_of ns index same none k h = once_in (numbered 0 ns) index same none k (subst (λ (l : List ℤ). HasTwice l k) (sym (numbers_in-numbered ns 0)) h)
+
 pub none_of : (ns : List ℤ) (index : List (ℤ × ℕ)) (k : ℤ) → IsPermutation (numbered 0 ns) index → ((place : ℕ) → Contains index (k, place) → ⊥) → Has ns k → ⊥
-none_of ns index k same none h = let r = listed ns 0 k h in none r.0 (Contains-permutation (numbered 0 ns) index (k, r.0) same r.1)
+none_of ns index k same none h = none_in (numbered 0 ns) index k same none (subst (λ (l : List ℤ). Has l k) (sym (numbers_in-numbered ns 0)) h)
 
 -- the number that a pair names
 stands : (ns : List ℤ) (at : ℕ) (k : ℤ) (place : ℕ) (i : ℕ) → i < length (numbered at ns) → slice_index_or (numbered at ns) i (k, place) ≡ (k, place)
@@ -123,7 +140,7 @@ stands (n ∷ ns) at k place (suc i) l e = let r = stands ns (suc at) k place i 
 pub place_of : (ns : List ℤ) (index : List (ℤ × ℕ)) (k : ℤ) (place : ℕ) → IsPermutation (numbered 0 ns) index → Contains index (k, place)
     → (place < length ns) × ((d : ℤ) → slice_index_or ns place d ≡ k)
 place_of ns index k place same h =
-    let c = Contains-permutation index (numbered 0 ns) (k, place) (IsPermutation-sym (numbered 0 ns) index same) h in
+    let c = contained_in (numbered 0 ns) index k place same h in
     let s = stands ns 0 k place c.0 c.1 c.2 in
     let here : place ≡ c.0 = omega (arith, s.0) in
     (omega (arith, s.1, here), λ d. ap (λ (i : ℕ). slice_index_or ns i d) here ∙ s.2 d)

@@ -1,5 +1,5 @@
 -- The numbers of fonts, in the order of the fonts' definitions.
-use Rattle.std.specs.Prelude.{◌≡◌, ◌⊎◌, ℕ, ℤ, suc, List, [], ◌∷◌}
+use Rattle.std.specs.Prelude.{◌≡◌, ◌⊎◌, ℕ, ℤ, suc, List, [], ◌∷◌, map}
 
 -- one of the numbers is k
 abbrev pub Has : List ℤ → ℤ → Type 0
@@ -15,3 +15,7 @@ HasTwice (n ∷ ns) k = ((n ≡ k) × Has ns k) ⊎ HasTwice ns k
 abbrev pub numbered : ℕ → List ℤ → List (ℤ × ℕ)
 numbered at [] = []
 numbered at (n ∷ ns) = (n, at) ∷ numbered (suc at) ns
+
+-- the numbers of pairs, in their order
+abbrev pub numbers_in : List (ℤ × ℕ) → List ℤ
+numbers_in pairs = map (λ a. a.0) pairs

@@ -1,6 +1,9 @@
 //! Font definitions in their bytes.
-ghost use Rattle.std.specs.Prelude.{◌≡◌, ◌≤◌, ◌<◌, length, slice_range, IfSome};
+ghost use Rattle.std.specs.Prelude.{◌≡◌, ◌≤◌, ◌<◌, ℕ, length, slice_range, MatchOption};
+ghost use Rattle.dvi_ops.specs.Command.{Definition};
+ghost use Rattle.dvi_ops.specs.Command.Command.{FntDef};
 ghost use Rattle.dvi_ops.specs.Defined.{defined, IsDefinition};
+ghost use Rattle.dvi_ops.specs.Spelling.{Spell};
 ghost use Rattle.dvi_ops.specs.View.{def_view};
 
 use crate::cmd::Def;
@@ -8,14 +11,16 @@ use crate::length::{fixed_len, text_len};
 use crate::number::code;
 use crate::read::read_def;
 
-/// The place behind the font definition at a place, where one stands there that is whole; `None` elsewhere.
+/// The place behind the font definition at a place; `None` exactly where none stands there that is whole.
 /// [`next_cmd`](crate::next_cmd) tells what else stands there.
 // Of use where many definitions follow one another: no value of the largest command's size is made for each.
 #[inline(always)]
 #[tactic(auto, unfolding(crate::specs::Spelling::fixed_len))]
 pub fn definition_end(bytes: &[u8], at: usize) -> Option<usize>
     requires { at < length bytes.now }
-    ensures { IfSome result (λ end. (at < end) × (end ≤ length bytes.now) × IsDefinition (slice_range bytes.now at end)) }
+    ensures { MatchOption result
+        ((d : Definition) → (end : ℕ) → at < end → end ≤ length bytes.now → Spell (FntDef d) (slice_range bytes.now at end) → ⊥)
+        (λ end. (at < end) × (end ≤ length bytes.now) × IsDefinition (slice_range bytes.now at end)) }
 {
     let op = bytes[at];
     if op < 243 || 246 < op {

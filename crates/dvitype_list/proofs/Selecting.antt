@@ -1,5 +1,5 @@
 -- The font that a number names on a page. (As in the walk, whose own proofs of it other crates don't see.)
-use Rattle.std.proofs.Common.{◌≡◌, ◌<◌, ℕ, zero, suc, ℤ, pos, List, [], ◌∷◌, length, Bool, true, false, Option, Some, None, refl, sym, ap, subst, ◌∙◌, ◌⊎◌, inl, inr, arith}
+use Rattle.std.proofs.Common.{◌≡◌, ◌<◌, ℕ, zero, suc, ℤ, List, [], ◌∷◌, length, Bool, true, false, Option, Some, None, refl, sym, ap, subst, ◌∙◌, inl, inr, arith}
 use Rattle.std.specs.Prelude.{if◌then◌else◌, slice_index_or, unsigned_abs}
 use Rattle.std.specs.List.{Contains}
 use Rattle.std.specs.Ordering.{int_eq}
@@ -10,7 +10,7 @@ use Rattle.dvi_doc.specs.View.{IsKeyOf}
 use Rattle.dvi_doc.specs.declared.font.FontKey.{FontKey}
 use Rattle.font_set.specs.Key.{Key}
 use Rattle.font_set.specs.Views.{key_of}
-use Rattle.font_set.specs.Programs.{Named, key_in, page_fonts}
+use Rattle.font_set.specs.Programs.{key_in, page_fonts}
 
 abbrev pub key_by : Definition → Key
 key_by d = record { name = d.name; checksum = d.checksum; size = unsigned_abs d.size; design = unsigned_abs d.design }

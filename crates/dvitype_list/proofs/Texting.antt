@@ -1,5 +1,5 @@
 -- Texts of lists, item by item.
-use Rattle.std.proofs.Common.{◌≡◌, ◌≤◌, ◌<◌, ◌+◌, ◌++◌, ℕ, ℤ, List, [], ◌∷◌, length, take, drop, get_or, refl, sym, ap, ◌∙◌, arith, append_assoc}
+use Rattle.std.proofs.Common.{◌≡◌, ◌<◌, ◌+◌, ◌++◌, ℕ, ℤ, List, [], ◌∷◌, length, take, drop, get_or, refl, sym, ap, ◌∙◌, append_assoc}
 use Rattle.std.specs.Fmt.{signed_decimal}
 use Rattle.std.proofs.lemmas.List.{append-nil, take-append-drop, take_more}
 use Rattle.dvi_ops.specs.Command.{Definition}
@@ -17,10 +17,6 @@ escaped_more bs i b next e =
 -- a front of the bytes has a front of the text
 pub escaped_front : (bs : List ℕ) (i : ℕ) → escaped (take i bs) ++ escaped (drop i bs) ≡ escaped bs
 escaped_front bs i = sym (escaped_join (take i bs) (drop i bs)) ∙ ap escaped (take-append-drop i bs)
-
-pub fonts_join : (xs ys : List Definition) → font_lines (xs ++ ys) ≡ font_lines xs ++ font_lines ys
-fonts_join [] ys = refl
-fonts_join (x ∷ xs) ys = ap (λ t. font_line x ++ t) (fonts_join xs ys) ∙ sym (append_assoc (font_line x) (font_lines xs) (font_lines ys))
 
 pub counts_join : (xs ys : List ℤ) → more_counts (xs ++ ys) ≡ more_counts xs ++ more_counts ys
 counts_join [] ys = refl
@@ -45,17 +41,12 @@ escaped_step bs i l = sym (escaped_more bs i (get_or bs i 0) (take (i + 1) bs) (
 pub escaped_rest : (bs : List ℕ) (i : ℕ) → i < length bs → (escaped (take i bs) ++ escape_byte (get_or bs i 0)) ++ escaped (drop (i + 1) bs) ≡ escaped bs
 escaped_rest bs i l = ap (λ (x : List ℕ). x ++ escaped (drop (i + 1) bs)) (escaped_step bs i l) ∙ escaped_front bs (i + 1)
 
-pub fonts_step : (ds : List Definition) (i : ℕ) (d : Definition) → i < length ds → d ≡ get_or ds i d → font_lines (take i ds) ++ font_line d ≡ font_lines (take (i + 1) ds)
-fonts_step ds i d l is =
-    ap (λ (x : List ℕ). font_lines (take i ds) ++ x) (sym (append-nil (font_line d)))
-    ∙ sym (fonts_join (take i ds) (d ∷ []))
-    ∙ ap font_lines (ap (λ (x : Definition). take i ds ++ x ∷ []) is ∙ sym (take_more ds i d l))
+-- one font more, and none
+pub fonts_next : (done : List ℕ) (d : Definition) (ds all : List Definition) (whole : List ℕ) → all ≡ d ∷ ds → done ++ font_lines all ≡ whole → (done ++ font_line d) ++ font_lines ds ≡ whole
+fonts_next done d ds all whole is e = append_assoc done (font_line d) (font_lines ds) ∙ ap (λ (x : List Definition). done ++ font_lines x) (sym is) ∙ e
 
-pub fonts_rest : (ds : List Definition) (i : ℕ) (d : Definition) → i < length ds → d ≡ get_or ds i d → (font_lines (take i ds) ++ font_line d) ++ font_lines (drop (i + 1) ds) ≡ font_lines ds
-fonts_rest ds i d l is =
-    ap (λ (x : List ℕ). x ++ font_lines (drop (i + 1) ds)) (fonts_step ds i d l is)
-    ∙ sym (fonts_join (take (i + 1) ds) (drop (i + 1) ds))
-    ∙ ap font_lines (take-append-drop (i + 1) ds)
+pub fonts_last : (done : List ℕ) (all : List Definition) (whole : List ℕ) → all ≡ [] → done ++ font_lines all ≡ whole → done ≡ whole
+fonts_last done all whole is e = sym (append-nil done) ∙ ap (λ (x : List Definition). done ++ font_lines x) (sym is) ∙ e
 
 pub more_whole : (text a b r w : List ℕ) → (a ++ b) ++ r ≡ w → ((text ++ a) ++ b) ++ r ≡ text ++ w
 more_whole text a b r w e = ap (λ (x : List ℕ). x ++ r) (append_assoc text a b) ∙ append_assoc text (a ++ b) r ∙ ap (λ (x : List ℕ). text ++ x) e

@@ -1,5 +1,5 @@
 -- One command against what stands before it and behind it.
-use Rattle.std.proofs.Common.{◌≡◌, ◌≤◌, ◌<◌, ◌+◌, ◌++◌, ◌^◌, ◌+ℤ◌, ◌⊎◌, inl, inr, ℕ, ℤ, pos, Bool, true, false, List, [], ◌∷◌, length, reverse, Option, Some, None, refl, sym, ap, subst, ◌∙◌, arith, nat_lt, nat_le, unsigned_abs, length-append}
+use Rattle.std.proofs.Common.{◌≡◌, ◌≤◌, ◌<◌, ◌++◌, ◌^◌, ◌+ℤ◌, inl, inr, ℕ, ℤ, pos, Bool, true, false, List, [], ◌∷◌, length, reverse, Option, Some, None, refl, sym, ap, subst, ◌∙◌, arith, nat_lt, nat_le, unsigned_abs}
 use Rattle.std.specs.Prelude.{MatchBool, if◌then◌else◌, ◌&&◌, vec_len}
 use Rattle.std.proofs.lemmas.Bool.Decides.{nat_tests}
 use Rattle.std.proofs.lemmas.List.{reverse-append, length-reverse}
@@ -13,7 +13,7 @@ use Rattle.dvi_ops.specs.Command.{Command, Definition}
 use Rattle.dvi_ops.specs.Command.Command.{Set, Put, Fnt, Push, Pop, Eop, SetRule, PutRule, Right, W0, W, X0, X, Down, Y0, Y, Z0, Z}
 use Rattle.dvi_ops.specs.Placed.{Placed}
 use Rattle.font_set.specs.Key.{Key, same_key}
-use Rattle.font_set.specs.Fonts.{FontSet, place_of, state_at, IsLoaded}
+use Rattle.font_set.specs.Fonts.{FontSet}
 use Rattle.font_set.specs.Growth.{Extends, keys_now}
 use Rattle.font_set.specs.LoadFaults.{IsCharCommand}
 use Rattle.font_set.specs.Programs.{Named, key_in, page_fonts}
@@ -23,10 +23,10 @@ use Rattle.font_set.specs.declared.fault.LoadFault.{LoadFault}
 use Rattle.font_set.specs.declared.fault.LoadFault.TheVariants as load
 use Rattle.vf_expand.specs.Grid.{Grid}
 use Rattle.dvitype_list.specs.Standing.{Standing, Setting}
-use Rattle.dvitype_list.specs.Turns.{turned, moved, past_char, past_rule, right_by, down_by, is_size, where_sized, space_of, set_by, put_by, in_font, pushed, popped, closed, stand_at, width_in}
-use Rattle.dvitype_list.specs.Widths.{setting, width_by, widths_of}
-use Rattle.dvitype_list.specs.Causes.{IsLarge, Passes, Overflows, IsStop, SetsNone, SetsIn}
-use Rattle.dvitype_list.specs.Kept.{IsPlain, IsSelected, LacksWidth, IsUnread, NotLearned, Learned, WidthFault, NoWidth, Knew, NotKnew, NotTurned, Stands, Turned}
+use Rattle.dvitype_list.specs.Turns.{turned, moved, past_char, past_rule, right_by, down_by, is_size, where_sized, space_of, set_by, put_by, in_font, popped, closed, stand_at, width_in}
+use Rattle.dvitype_list.specs.Widths.{setting, width_by}
+use Rattle.dvitype_list.specs.Causes.{IsLarge, Passes, Overflows, SetsNone}
+use Rattle.dvitype_list.specs.Kept.{IsPlain, IsSelected, LacksWidth, IsUnread, NotLearned, WidthFault, NoWidth, Knew, NotKnew, NotTurned, Stands, Turned}
 use Rattle.dvitype_list.specs.Space.{space_by}
 use Rattle.dvitype_list.specs.declared.fault.ListFault.{ListFault}
 use Rattle.dvitype_list.specs.declared.fault.ListFault.TheVariants as fault

@@ -1,6 +1,6 @@
 -- Sets of fonts that grow: widths that are told stay, and what stands stays.
-use Rattle.std.proofs.Common.{Result, Ok, Err, length-append, ◌≡◌, ◌≤◌, ◌<◌, ◌+◌, ◌/◌, ◌⊎◌, inl, inr, ℕ, zero, suc, ℤ, pos, negsuc, Bool, true, false, List, [], ◌∷◌, ◌++◌, length, Option, Some, None, refl, sym, ap, subst, ◌∙◌, arith, nat_lt, get_or}
-use Rattle.std.specs.Prelude.{if◌then◌else◌, slice_get, OnOk, OnErr, IfOk, IfErr, map}
+use Rattle.std.proofs.Common.{Result, Ok, Err, length-append, ◌≡◌, ◌≤◌, ◌<◌, ◌+◌, ◌/◌, inl, inr, ℕ, zero, suc, ℤ, pos, negsuc, Bool, true, false, List, [], ◌∷◌, length, Option, Some, None, refl, sym, ap, subst, ◌∙◌, arith, nat_lt, get_or}
+use Rattle.std.specs.Prelude.{if◌then◌else◌, slice_get, OnOk, OnErr, IfOk, IfErr}
 use Rattle.std.proofs.lemmas.List.{length-map}
 use Rattle.indexmap.specs.IndexSet.{insert_key}
 use Rattle.font_set.specs.FontFaults.{IsFull, NotKnown, NotLoaded}
@@ -21,21 +21,20 @@ use Rattle.font_set.specs.declared.fault.LoadFault.TheVariants as load
 use Rattle.dvitype_list.specs.declared.fault.ListFault.{ListFault}
 use Rattle.dvitype_list.specs.declared.fault.ListFault.TheVariants as fault
 use Rattle.std.proofs.lemmas.Bool.Decides.{nat_tests}
-use Rattle.std.proofs.lemmas.Option.{get_or_from_slice_get}
 use Rattle.std.proofs.lemmas.List.Quantifiers.{position-Some}
 use Rattle.dv_base.specs.Shelf.{Contents, Told}
 use Rattle.font_set.specs.Key.{Key, same_key}
 use Rattle.font_set.specs.Fonts.{State as FontState, Entry, FontSet, place_of, key_at, entry_key, learn, size_at, state_at, width_at, width_of, IsLoaded}
-use Rattle.font_set.specs.Growth.{Extends, Learnt, Loaded, keys_now}
+use Rattle.font_set.specs.Growth.{Extends, Loaded, keys_now}
 use Rattle.font_set.specs.Gains.{Gains}
 use Rattle.font_set.specs.FontOf.{Loads}
 use Rattle.dvitype_list.specs.Causes.{IsUnreadIn, IsWidthless}
-use Rattle.font_set.proofs.Growing.{extends_self, extends_on, state_later, size_later, loaded_later}
-use Rattle.font_set.proofs.Gaining.{gains_self, gains_on, gains_wider, learnt_gains, loaded_gains}
+use Rattle.font_set.proofs.Growing.{state_later, size_later}
+use Rattle.font_set.proofs.Gaining.{gains_self, gains_on, gains_wider, loaded_gains}
 use Rattle.font_set.proofs.Ids.{id_below, same_is}
 use Rattle.dvitype_list.specs.Standing.{Standing}
 use Rattle.dvitype_list.specs.Widths.{width_told, widths_of, width_by}
-use Rattle.dvitype_list.specs.Kept.{Any, IsNoChar, IsSelected, Knew, Learned, LacksWidth, NoWidth, NoWidthAt, NotKnew, NotLearned, Stands, StaysUnread, defined_key}
+use Rattle.dvitype_list.specs.Kept.{Any, IsNoChar, IsSelected, Knew, Learned, NoWidth, NoWidthAt, NotKnew, NotLearned, Stands, StaysUnread, defined_key}
 use Rattle.dvitype_list.specs.declared.state.Selected.{Selected}
 use Rattle.dvitype_list.specs.declared.state.State.{State}
 

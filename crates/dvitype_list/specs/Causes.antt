@@ -1,12 +1,11 @@
 -- Why a listing ends before a command: each fault is one of that command, judged by what stands before it.
-use Rattle.std.specs.Prelude.{◌≡◌, ℕ, ◌-◌, ◌^◌, ◌<◌, ◌⊎◌, ℤ, pos, ◌+ℤ◌, List, [], length, Option, Some, None, unsigned_abs}
+use Rattle.std.specs.Prelude.{◌≡◌, ℕ, ◌-◌, ◌^◌, ◌<◌, ◌⊎◌, ℤ, pos, ◌+ℤ◌, [], length, Some, None, unsigned_abs}
 use Rattle.indexmap.specs.IndexSet.{insert_key}
 use Rattle.dv_base.specs.Shelf.{Told}
-use Rattle.dv_base.specs.declared.font_id.Spot.{Spot}
 use Rattle.dv_base.specs.declared.font_id.Spot.TheVariants as spot
 use Rattle.positions.specs.Place.{Place}
 use Rattle.dvi_ops.specs.Command.{Command}
-use Rattle.dvi_ops.specs.Command.Command.{Set, Put, Fnt, Push, Pop, Eop, SetRule, PutRule, Right, W0, W, X0, X, Down, Y0, Y, Z0, Z}
+use Rattle.dvi_ops.specs.Command.Command.{Set, Fnt, Push, Pop, Eop, SetRule, PutRule, Right, W0, W, X0, X, Down, Y0, Y, Z0, Z}
 use Rattle.dvi_ops.specs.Placed.{Placed}
 use Rattle.font_set.specs.Key.{Key, same_key}
 use Rattle.font_set.specs.Fonts.{FontSet, place_of, state_at, width_at, IsLoaded}

@@ -1,7 +1,6 @@
 -- What the code keeps between two commands. (No public clause cites this module.)
 use Rattle.std.specs.Prelude.{◌≡◌, ◌<◌, ◌≤◌, ◌++◌, Bool, ℕ, ◌/◌, ℤ, pos, List, length, reverse, Option, Some, None, unsigned_abs}
 use Rattle.indexmap.specs.IndexSet.{insert_key}
-use Rattle.positions.specs.Place.{Place}
 use Rattle.dvi_ops.specs.Command.{Command, Definition}
 use Rattle.dvi_ops.specs.Command.Command.{Set, Put, Fnt, Push, Pop, Eop, Bop, Pre, Post, PostPost}
 use Rattle.dv_base.specs.Shelf.{Told}
@@ -21,7 +20,7 @@ use Rattle.dvitype_list.specs.Standing.{Standing, Setting}
 use Rattle.dvitype_list.specs.Turns.{turned}
 use Rattle.dvitype_list.specs.Causes.{IsStop, IsUnreadIn, IsWidthless}
 use Rattle.dvitype_list.specs.Gathered.{Gathered, Cut}
-use Rattle.dvitype_list.specs.Listing.{Run, Course, line_of, commands_run}
+use Rattle.dvitype_list.specs.Listing.{Run, line_of, commands_run}
 use Rattle.dvitype_list.specs.Listing.Course.{Ends, Stops}
 use Rattle.dvitype_list.specs.Widths.{width_by}
 use Rattle.dvitype_list.specs.declared.fault.ListFault.{ListFault}

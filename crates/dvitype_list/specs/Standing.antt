@@ -1,5 +1,5 @@
 -- What stands between two commands of a page.
-use Rattle.std.specs.Prelude.{ℕ, ℤ, List, [], Option, None}
+use Rattle.std.specs.Prelude.{ℤ, List, [], Option, None}
 use Rattle.dv_base.specs.Rounding.{Fraction}
 use Rattle.positions.specs.Place.{Place, origin}
 use Rattle.font_set.specs.Key.{Key}

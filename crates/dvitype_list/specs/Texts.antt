@@ -1,5 +1,5 @@
 -- The lines of a listing. (Their form is this project's own, after DVItype in outline.)
-use Rattle.std.specs.Prelude.{ℕ, ◌+◌, ◌/◌, ◌%◌, ◌^◌, ◌&&◌, not, nat_lt, nat_le, nat_eq, if◌then◌else◌, ℤ, pos, List, [], ◌∷◌, ◌++◌, codes, decimal}
+use Rattle.std.specs.Prelude.{ℕ, ◌+◌, ◌/◌, ◌%◌, ◌^◌, ◌&&◌, not, nat_lt, nat_le, nat_eq, if◌then◌else◌, ℤ, List, [], ◌∷◌, ◌++◌, codes, decimal}
 use Rattle.std.specs.Fmt.{signed_decimal}
 use Rattle.positions.specs.Place.{Place}
 use Rattle.dvi_ops.specs.Command.{Command, Definition, Preamble}

@@ -28,7 +28,7 @@ use crate::state::State;
 use crate::turn::turn;
 use dv_base::{Conv, Line, Shelf, Tray, WriteFault};
 use dv_words::ListJob;
-use dvi_doc::{Doc, FontDef, Page, one_document};
+use dvi_doc::{Definitions, Doc, Page, one_document};
 use dvi_ops::{Cmd, Def, command_at};
 use font_set::Fonts;
 use positions::Pos;
@@ -348,14 +348,14 @@ fn font_line<T: Tray>(out: &mut Gatherer, tray: &mut T, font: &Def<'_>) -> Resul
 fn font_lines<T: Tray>(
     out: &mut Gatherer,
     tray: &mut T,
-    fonts: &[FontDef<'_>],
+    mut fonts: Definitions<'_>,
 ) -> Result<(), WriteFault>
     requires begun { 0 < (T.seen tray.old).begun }
-    ensures ok { (first : Seen) (text : List ℕ) → Gathered first (T.seen tray.old) out.old.kept.items text → OnOk result (Gathered first (T.seen tray.new) out.new.kept.items (text ++ font_lines fonts.now)) }
-    ensures cut { (first : Seen) (text : List ℕ) → Gathered first (T.seen tray.old) out.old.kept.items text → OnErr result (Cut first (T.seen tray.new) (text ++ font_lines fonts.now)) }
+    ensures ok { (first : Seen) (text : List ℕ) → Gathered first (T.seen tray.old) out.old.kept.items text → OnOk result (Gathered first (T.seen tray.new) out.new.kept.items (text ++ font_lines fonts.entry)) }
+    ensures cut { (first : Seen) (text : List ℕ) → Gathered first (T.seen tray.old) out.old.kept.items text → OnErr result (Cut first (T.seen tray.new) (text ++ font_lines fonts.entry)) }
     ensures keeps { KeepsNames (T.seen tray.old) (T.seen tray.new) }
 {
-    for font in fonts {
+    while let Some(font) = fonts.next() {
         font_line(out, tray, &font.def())?;
     }
     Ok(())

@@ -89,7 +89,7 @@ fn is_found(fonts: &Fonts, doc: &Doc<'_>, id: Option<FontId>) -> bool {
         return false;
     };
     let mut hint = FontId::new(7);
-    fonts.id_of(font, &mut hint) == id && hint == id && fonts.id_of(font, &mut hint) == id
+    fonts.id_of(&font, &mut hint) == id && hint == id && fonts.id_of(&font, &mut hint) == id
 }
 
 /// What loading the first page answers, and how many fonts are known then, the document's first.

@@ -133,7 +133,7 @@ impl Fonts {
             return None;
         };
         let font = sheet.definition(k)?;
-        let id = agenda.id_of(self, k, font)?;
+        let id = agenda.id_of(self, k, &font)?;
         Some((id, next))
     }
 

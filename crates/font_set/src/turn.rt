@@ -66,10 +66,10 @@ impl<'a> Model for Sheet<'a> {
 
 impl<'a> Sheet<'a> {
     /// The definition of the font that a number names in the page, where it names one.
-    pub(crate) fn definition(&self, k: i64) -> Option<&FontDef<'a>>
-        ensures found { MatchOption result (HasNumber self.now.page.scope.fonts k → ⊥) (λ font. key_in self.now.page.scope.fonts k ≡ Some (key_by font.now)) }
-        ensures named { IfSome result (λ font. IsNamed font.now) }
-        ensures sized { IfSome result (λ font. IsSized font.now) }
+    pub(crate) fn definition(&self, k: i64) -> Option<FontDef<'a>>
+        ensures found { MatchOption result (HasNumber self.now.page.scope.fonts k → ⊥) (λ font. key_in self.now.page.scope.fonts k ≡ Some (key_by font)) }
+        ensures named { IfSome result (λ font. IsNamed font) }
+        ensures sized { IfSome result (λ font. IsSized font) }
     {
         self.doc.font(k)
     }

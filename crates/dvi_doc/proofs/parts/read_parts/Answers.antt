@@ -51,6 +51,6 @@ returns-clause-found c =
     let ending = c.in_ok-fonts.ensures.found in
     let last : SpelledTo bytes c.in_ok-ends.ends (c.in_ok-ends.ends + 6) (PostPost b.post 2) =
     subst (λ (n : ℕ). SpelledTo bytes c.in_ok-ends.ends (c.in_ok-ends.ends + 6) (PostPost n 2)) c.if-back-post.false trailer.1 in
-    let f = file_from bytes c.in_ok-head.start b.next c.in_ok-ends.ends (head_view c.in_ok-head.head) b.post (tail_view b.tail) b.pages.items b.earlier.items c.in_ok-fonts.fonts.items
+    let f = file_from bytes c.in_ok-head.start b.next c.in_ok-ends.ends (head_view c.in_ok-head.head) b.post (tail_view b.tail) b.pages.items b.earlier.items c.in_ok-fonts.fonts
     pre.0 pre.1 body.0 body.3 body.2 body.1 ending.0 trailer.0 last in
     (f.0, f.1, (f.2, f.3, f.4, f.5, f.6))

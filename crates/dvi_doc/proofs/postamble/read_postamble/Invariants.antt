@@ -1,9 +1,9 @@
-use Rattle.std.proofs.Common.{◌≡◌, ◌≤◌, ◌-◌, ℕ, ℤ, List, length, slice_range}
-use Rattle.dvi_ops.specs.Placed.{Placed, Lexes}
-use Rattle.dvi_doc.specs.Document.{definitions_of}
-use Rattle.dvi_doc.specs.Grammar.{AllFillers}
+use Rattle.std.proofs.Common.{◌≤◌, ◌-◌, ℕ, ℤ, List}
+use Rattle.dvi_ops.specs.Command.{Definition}
 use Rattle.dvi_doc.specs.Order.{Reaches, reading}
 use Rattle.dvi_doc.specs.Order.Part.{Behind}
+use Rattle.dvi_doc.specs.PartFaults.{AreJudged}
+use Rattle.dvi_doc.specs.Standing.{HoldsEnding, Stand}
 use Rattle.dvi_doc.proofs.postamble.read_postamble.Given as goal
 
 abbrev pub invariant-loop-at : goal.invariant-loop-at
@@ -11,8 +11,7 @@ invariant-loop-at l =
     record {
       onward : l.start ≤ l.at;
       inside : l.at ≤ l.ends;
-      few : length l.fonts.items ≤ l.at;
-      holds : (cs : List Placed) × AllFillers cs × Lexes l.start (slice_range l.bytes l.start l.at) cs × (definitions_of cs ≡ l.fonts.items);
+      holds : (defs : List Definition) × HoldsEnding l.bytes l.start l.at defs × Stand l.bytes l.numbers defs × AreJudged defs l.fault;
       reached : (last : ℤ) (post : ℕ) → Reaches l.bytes l.start (reading Behind last post) → Reaches l.bytes l.at (reading Behind last post);
     }
 

@@ -1,5 +1,5 @@
 -- Up to three bytes are a number below 2^24.
-use Rattle.std.proofs.Common.{◌≡◌, ◌≤◌, ◌<◌, ◌^◌, ◌∙◌, ℕ, zero, suc, pos, List, Bool, true, nat_lt, if◌then◌else◌, refl, sym, ap, to_z, w32, arith}
+use Rattle.std.proofs.Common.{◌≡◌, ◌<◌, ◌^◌, ◌∙◌, ℕ, zero, suc, pos, List, Bool, true, nat_lt, if◌then◌else◌, sym, ap, to_z, w32, arith}
 use Rattle.std.proofs.lemmas.Bool.Decides.{nat_tests}
 use Rattle.std.proofs.lemmas.Int.{ints}
 use Rattle.dv_base.specs.Numbers.{unsigned, signed}

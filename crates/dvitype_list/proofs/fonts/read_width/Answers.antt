@@ -1,7 +1,7 @@
 use Rattle.std.proofs.Common.{w64}
 use Rattle.std.proofs.lemmas.Int.{to_z-of_z}
 use Rattle.std.proofs.lemmas.Result.{err_from_is_err_and}
-use Rattle.dvitype_list.proofs.Widening.{any_on, any_held, no_char_by, unread_fault}
+use Rattle.dvitype_list.proofs.Widening.{no_char_by, unread_fault}
 use Rattle.dvitype_list.proofs.fonts.read_width.Goals as goal
 
 pub returns-in_err-load-clause-fault : goal.returns-in_err-load-clause-fault

@@ -4,7 +4,6 @@ use Rattle.std.specs.List.{Contains}
 use Rattle.dvi_doc.specs.Grammar.{Defines, IsNamed, IsSized}
 use Rattle.dvi_ops.specs.Command.{Definition}
 use Rattle.dvi_ops.specs.View.{def_view}
-use Rattle.dvitype_list.specs.Kept.{defined_key}
 use Rattle.dvitype_list.proofs.Selecting.{key_none, key_one}
 use Rattle.dvitype_list.proofs.Widening.{any_self, knew, not_knew}
 use Rattle.dvitype_list.proofs.fonts.select.Goals as goal

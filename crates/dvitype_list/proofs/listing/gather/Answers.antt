@@ -1,4 +1,4 @@
-use Rattle.std.proofs.Common.{w64, ◌++◌, ◌∙◌, [], length, map, refl}
+use Rattle.std.proofs.Common.{w64, ◌++◌, ◌∙◌, [], length, refl}
 use Rattle.std.proofs.lemmas.Int.{to_z-of_z}
 use Rattle.std.proofs.lemmas.List.{append-nil}
 use Rattle.dvitype_list.specs.Listing.{pages_run}
@@ -23,7 +23,7 @@ returns-in-Err-font_lines-clause-fault g c = λ d is.
     let r = scene.doc.now in
     let seen = g.T.Tray.seen in
     let head = head_text r.head c.args.mag (length r.pages) in
-    let fs = c.fonts.result.now in
+    let fs = c.fonts.result in
     let ok = (rw (to_z-of_z w64 c.args.mag c.ranges.mag) at c.in_default.ensures.ok) (seen c.args.tray.now) [] (gathered_start _ _ c.requires.start) in
     head_cut (setting scene.conv r.fonts c.args.fonts.now) scene.detail d c.args.mag c.args.places.now (seen c.args.tray.now) (seen c.font_lines.new.tray) (head ++ font_lines fs) []
     (append-nil (head ++ font_lines fs) ∙ head_is c.one_document.ensures r d c.args.mag fs c.requires.read is c.fonts.ensures.fonts) (c.in-Err-font_lines.ensures.cut (seen c.args.tray.now) head ok)
@@ -35,7 +35,7 @@ returns-in-Err-pages-clause-fault g c = λ d is.
     let seen = g.T.Tray.seen in
     let first = seen c.args.tray.now in
     let mag = c.args.mag in
-    let fs = c.fonts.result.now in
+    let fs = c.fonts.result in
     let head = head_text r.head mag (length r.pages) in
     let front = head_text d.head mag (length d.pages) ++ font_lines d.fonts in
     let ok = (rw (to_z-of_z w64 mag c.ranges.mag) at c.in_default.ensures.ok) first [] (gathered_start _ _ c.requires.start) in
@@ -52,7 +52,7 @@ returns-in-Ok-clause-ok g c = λ d is.
     let seen = g.T.Tray.seen in
     let first = seen c.args.tray.now in
     let mag = c.args.mag in
-    let fs = c.fonts.result.now in
+    let fs = c.fonts.result in
     let head = head_text r.head mag (length r.pages) in
     let front = head_text d.head mag (length d.pages) ++ font_lines d.fonts in
     let ok = (rw (to_z-of_z w64 mag c.ranges.mag) at c.in_default.ensures.ok) first [] (gathered_start _ _ c.requires.start) in
@@ -69,7 +69,7 @@ returns-in-Err-done_line-clause-fault g c = λ d is.
     let seen = g.T.Tray.seen in
     let first = seen c.args.tray.now in
     let mag = c.args.mag in
-    let fs = c.fonts.result.now in
+    let fs = c.fonts.result in
     let head = head_text r.head mag (length r.pages) in
     let front = head_text d.head mag (length d.pages) ++ font_lines d.fonts in
     let ok = (rw (to_z-of_z w64 mag c.ranges.mag) at c.in_default.ensures.ok) first [] (gathered_start _ _ c.requires.start) in

@@ -1,5 +1,4 @@
 use Rattle.std.proofs.Common.{◌≡◌, rules, w64, to_z, of_z}
-use Rattle.dvitype_list.proofs.Widening.{any_self}
 use Rattle.dvitype_list.proofs.turn.turn.Goals as goal
 
 pub returns-in-Set-clause-ok : goal.returns-in-Set-clause-ok

@@ -12,10 +12,10 @@ returns-in-Some c =
     let same : to_z w64 (of_z w64 c.from.result) ≡ c.args.def.now.k = to_z-of_z w64 c.from.result wide ∙ c.from.ensures ∙ to_z-of_z w32 c.k.result fits ∙ c.k.ensures in
     let f = c.in-Some.ensures in
     let yes = IsTrue c.is_same.result in
-    let equal : yes ↔ (c.in-Some.font.now ≡ c.args.def.now) =
+    let equal : yes ↔ (c.in-Some.font ≡ c.args.def.now) =
     subst (λ (x : Definition). yes ↔ (x ≡ c.args.def.now)) c.def.ensures
     (subst (λ (x : Definition). yes ↔ (def_view c.def.result ≡ x)) c.def-in-Some.ensures c.is_same.ensures) in
-    has_by c.is_same.result c.args.self.now c.in-Some.font.now c.args.def.now equal f.0 c.requires (f.1 ∙ same)
+    has_by c.is_same.result c.args.self.now c.in-Some.font c.args.def.now equal f.0 c.requires (f.1 ∙ same)
 
 pub returns-in-None : goal.returns-in-None
 returns-in-None c =

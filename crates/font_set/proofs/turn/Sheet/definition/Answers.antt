@@ -14,5 +14,5 @@ returns-clause-found c =
     (λ h. subst (λ (s : PageBytes). HasNumber s.page.scope.fonts c.args.k → ⊥) c.self.view_is
     (page_no_key ds c.self.inside.first c.self.inside.bytes.now c.args.k (subst (λ (k : ℤ). Defines ds k → ⊥) k_is h)))
     (λ font e. ap (λ (s : PageBytes). key_in s.page.scope.fonts c.args.k) (sym c.self.view_is)
-    ∙ page_definition ds c.self.inside.first c.self.inside.bytes.now font.now c.args.k c.self.invariant e.0 (e.1 ∙ k_is))
+    ∙ page_definition ds c.self.inside.first c.self.inside.bytes.now font c.args.k c.self.invariant e.0 (e.1 ∙ k_is))
     c.font.ensures.found

@@ -9,7 +9,7 @@ use Rattle.font_set.proofs.turn.Sheet.font.Goals as goal
 
 pub returns-in-Some : goal.returns-in-Some
 returns-in-Some c =
-    let made = key_made c.in-Some.font.now c.of.result c.in-Some.ensures.named c.in-Some.ensures.sized (subst (λ (d : Definition). IsKeyOf d c.of.result) c.def.ensures c.of.ensures) in (
+    let made = key_made c.in-Some.font c.of.result c.in-Some.ensures.named c.in-Some.ensures.sized (subst (λ (d : Definition). IsKeyOf d c.of.result) c.def.ensures c.of.ensures) in (
       ap (key_in c.args.self.now.page.scope.fonts) (sym (to_z-of_z w64 c.args.k c.ranges.k)) ∙ c.in-Some.ensures.found ∙ ap Some made.0,
       made.1,
     )

@@ -18,7 +18,7 @@ returns-in_ok-font-in-Page c =
     let ds = c.in-Page.doc.now.fonts in
     let found = c.in_ok-font-in-Page.ensures.found in
     let once = rw c.in-Page.is at c.requires.given in
-    let def = c.in_ok-font-in-Page.font.now in
+    let def = c.in_ok-font-in-Page.font in
     rw c.in-Page.is
     (c.id_of.ensures.value
     ∙ sym (ap (id_of c.args.self.now.fonts.now) (key_one ds def c.args.k found.0 (found.1 ∙ to_z-of_z w64 c.args.k c.ranges.k) (once c.args.k))))
