@@ -1,5 +1,5 @@
 -- Two sets that have their fonts from the same files reach the same frames, where one of them covers what they start from.
-use Rattle.std.proofs.Common.{◌≡◌, ◌<◌, ◌⊎◌, inl, inr, ℕ, zero, suc, ℤ, List, [], ◌∷◌, ◌++◌, Option, Some, None, refl, sym, ap, subst, ◌∙◌, get_or}
+use Rattle.std.proofs.Common.{◌≡◌, inl, inr, ℕ, zero, suc, List, [], ◌∷◌, ◌++◌, Option, Some, None, refl, sym, ap, subst, ◌∙◌, get_or}
 use Rattle.std.specs.Prelude.{slice_get}
 use Rattle.std.proofs.lemmas.List.Quantifiers.{position-Some}
 use Rattle.std.proofs.lemmas.Option.{slice_get-get_or}
@@ -17,7 +17,7 @@ use Rattle.font_set.specs.LoadFaults.{InSome, PacketOf}
 use Rattle.font_set.specs.Alike.{Alike, OneFontOf, Twin}
 use Rattle.font_set.specs.declared.want.Want.{Want}
 use Rattle.font_set.proofs.Growing.{good_place, shown_loaded}
-use Rattle.font_set.proofs.Ids.{id_below, same_is}
+use Rattle.font_set.proofs.Ids.{same_is}
 use Rattle.font_set.proofs.Later.{packet_loaded, reached_good}
 
 -- ---- keys and ids

@@ -1,18 +1,18 @@
 -- Where the search ends the set covers the page, and what a fault names is reached.
-use Rattle.std.proofs.Common.{◌≡◌, ◌≤◌, ◌<◌, ◌+◌, ◌⊎◌, inl, inr, ℕ, zero, suc, arith, List, [], ◌∷◌, ◌++◌, Bool, true, false, length, Option, Some, None, refl, sym, ap, subst, ◌∙◌, nat_eq, true≢false, ◌||◌, cond, nat_lt, not}
+use Rattle.std.proofs.Common.{◌≡◌, ◌<◌, ◌+◌, ◌⊎◌, inl, inr, ℕ, zero, suc, arith, List, [], ◌∷◌, Bool, true, false, length, Option, Some, None, refl, sym, ap, subst, nat_eq, true≢false, ◌||◌, cond, nat_lt, not}
 use Rattle.std.specs.Prelude.{map}
 use Rattle.std.specs.List.{list_any, position_or_len}
 use Rattle.std.proofs.lemmas.Bool.Decides.{nat_tests}
 use Rattle.font_set.specs.Key.{Key, same_key}
 use Rattle.font_set.specs.Fonts.{Entry, FontSet, place_of}
 use Rattle.font_set.specs.Programs.{Program, program_at}
-use Rattle.font_set.specs.Acts.{Act, Every, IsRun, Reached, RunsAt, IsReached}
+use Rattle.font_set.specs.Acts.{Every, IsRun, Reached, RunsAt, IsReached}
 use Rattle.font_set.specs.Acts.Act.{Selects, Runs, Wrong}
 use Rattle.font_set.specs.Frames.{Char, FontAct, acts_of, acts_of_packet, body, body_at}
 use Rattle.font_set.specs.Covers.{IsGood, IsThere, Covers}
 use Rattle.font_set.specs.Growth.{keys_now}
 use Rattle.font_set.specs.Search.{rooted, root}
-use Rattle.font_set.specs.Progress.{Search, Seen}
+use Rattle.font_set.specs.Progress.{Seen}
 use Rattle.font_set.specs.Found.{In, Found}
 use Rattle.font_set.proofs.Order.{ended, all_visited, every_at}
 use Rattle.font_set.proofs.Growing.{rooted_char, rooted_root}

@@ -1,14 +1,14 @@
 -- The keys of an expanded tree are those of the frames, in their order.
-use Rattle.std.proofs.Common.{◌≡◌, ◌<◌, ◌+◌, ℕ, zero, suc, ℤ, pos, negsuc, Bool, true, false, List, [], ◌∷◌, ◌++◌, Option, Some, None, refl, sym, ap, subst, ◌∙◌, append_assoc, nat_lt, if◌then◌else◌}
+use Rattle.std.proofs.Common.{◌≡◌, ◌<◌, ℕ, zero, suc, ℤ, pos, negsuc, Bool, true, false, List, [], ◌∷◌, ◌++◌, Option, Some, None, refl, sym, ap, subst, ◌∙◌, append_assoc, nat_lt, if◌then◌else◌}
 use Rattle.std.specs.Prelude.{fold}
 use Rattle.indexmap.specs.IndexSet.{insert_key}
 use Rattle.dvi_ops.specs.Command.{Command}
 use Rattle.dvi_ops.specs.Command.Command.{Set, Put, Fnt, Push, Pop}
 use Rattle.dvi_ops.specs.Placed.{Placed}
 use Rattle.font_set.specs.Key.{Key, same_key}
-use Rattle.font_set.specs.Fonts.{State, FontSet, place_of, size_at, state_at, width_at, IsLoaded}
-use Rattle.font_set.specs.Programs.{Named, Scope, Program, key_in, key_of_first, program_at, program_in}
-use Rattle.font_set.specs.Acts.{Act, Every, HasBy, Inside, IsRun, RunsAt, IsReached}
+use Rattle.font_set.specs.Fonts.{State, FontSet, place_of, size_at, state_at, width_at}
+use Rattle.font_set.specs.Programs.{Named, Scope, Program, key_in, program_at, program_in}
+use Rattle.font_set.specs.Acts.{Every, HasBy, Inside, IsRun, RunsAt}
 use Rattle.font_set.specs.Acts.Act.{Selects, Runs, Wrong}
 use Rattle.font_set.specs.Frames.{Char, FontAct, acts_from, acts_with_first, acts_of, acts_of_command, acts_of_packet, char_act, select_act, selected, body, body_at}
 use Rattle.font_set.specs.Covers.{IsGood, Covers}
@@ -17,10 +17,9 @@ use Rattle.font_set.specs.LoadFaults.{selected_after}
 use Rattle.font_set.specs.Search.{InOrder, rooted, root}
 use Rattle.font_set.specs.Tree.{Tree, tree_of, commands_of}
 use Rattle.font_set.specs.Tree.Tree.{End, Then, Group}
-use Rattle.font_set.specs.Expand.{Shape, Shapes, Expanded, plain, in_font, glyph, boxed, grouped, shaped, set_in, node, selected_behind, expand_by, expand_tree, with_first, expand_frame, expand_packet, expand, keys_of}
+use Rattle.font_set.specs.Expand.{Shape, Shapes, Expanded, plain, in_font, boxed, grouped, shaped, set_in, node, selected_behind, expand_by, expand_tree, with_first, expand_frame, expand_packet, expand, keys_of}
 use Rattle.font_set.specs.Shapes.{shape_by, shape_at, shapes_of}
-use Rattle.font_set.proofs.Order.{every_at}
-use Rattle.font_set.proofs.Growing.{program_later, body_is, good_place, shown_loaded, rooted_char, rooted_root}
+use Rattle.font_set.proofs.Growing.{program_later, good_place, shown_loaded, rooted_char, rooted_root}
 use Rattle.font_set.proofs.Finding.{runs_it}
 use Rattle.font_set.proofs.Later.{acts_split}
 use Rattle.font_set.proofs.Trees.{tree_commands}

@@ -1,24 +1,23 @@
 -- Where the search stops, the fault is true of a frame of the page.
-use Rattle.std.proofs.Common.{◌≡◌, ◌≤◌, ◌<◌, ◌+◌, ◌⊎◌, inl, inr, ℕ, ℤ, pos, List, [], ◌∷◌, ◌++◌, Bool, length, drop, Option, Some, None, refl, sym, ap, subst, ◌∙◌, arith}
+use Rattle.std.proofs.Common.{◌≡◌, ◌<◌, ◌+◌, inl, inr, ℕ, ℤ, List, [], ◌∷◌, ◌++◌, Bool, length, drop, Option, Some, None, refl, sym, ap, subst, ◌∙◌, arith}
 use Rattle.dvi_ops.specs.Command.{Command}
 use Rattle.dvi_ops.specs.Command.Command.{Set, Put, Fnt}
 use Rattle.dvi_ops.specs.Placed.{Placed, Lexes}
 use Rattle.dv_base.specs.declared.font_id.Spot.{Spot}
 use Rattle.font_set.specs.Key.{Key, same_key}
-use Rattle.font_set.specs.Fonts.{State, FontSet, place_of, state_at, size_at, IsLoaded}
+use Rattle.font_set.specs.Fonts.{State, FontSet, place_of, state_at, size_at}
 use Rattle.vf_packets.specs.Font.{packet_of}
 use Rattle.std.proofs.Math.ListN.{length-drop}
-use Rattle.font_set.specs.Programs.{Scope, Program, HasNumber, program_at, program_in, packet_program, lexed, locals_at, locals_in, locals_of, head_of, key_of_first, id_of}
-use Rattle.font_set.specs.Acts.{Act, IsReached, Reached}
-use Rattle.font_set.specs.Frames.{Char, FontAct, acts_of, body}
+use Rattle.font_set.specs.Programs.{Scope, Program, program_at, program_in, packet_program, lexed, locals_at, locals_in, locals_of, head_of, id_of}
+use Rattle.font_set.specs.Frames.{Char}
 use Rattle.dv_base.specs.Shelf.{Told}
 use Rattle.dvi_doc.specs.declared.font.FontKey.{FontKey}
 use Rattle.font_set.specs.Views.{key_of}
 use Rattle.font_set.specs.LoadFaults.{CommandOf, PacketOf, InFrame, InSome, IsCharCommand, SelectsNone, SetsNowhere, SetsIn, SelectsKey, MustKnow, FontFaultIs, LoadFaultIs}
 use Rattle.font_set.specs.declared.fault.FontFault.{FontFault}
 use Rattle.font_set.specs.declared.fault.FontFault.TheVariants as font
-use Rattle.font_set.specs.Growth.{Extends, keys_now}
-use Rattle.font_set.specs.Search.{fonts_of, program_of, program_or, or_empty, bytes_of, first_of, spot_at, IsHome, IsSel, IsTurnFault, BadAt, Tells, rooted, root}
+use Rattle.font_set.specs.Growth.{keys_now}
+use Rattle.font_set.specs.Search.{fonts_of, program_of, program_or, or_empty, bytes_of, first_of, spot_at, IsSel, IsTurnFault, BadAt, Tells, rooted, root}
 use Rattle.font_set.specs.Progress.{Search}
 use Rattle.font_set.specs.Found.{In, FontFrame, IsChar, IsAt, TurnHere}
 use Rattle.font_set.specs.declared.agenda.Home.{Home}

@@ -1,7 +1,6 @@
 -- How far the search for a page's fonts has come: places in bytes beside the frames of the search.
-use Rattle.std.proofs.Common.{◌≡◌, ◌≤◌, ◌<◌, ◌+◌, ◌-◌, ◌*◌, ◌^◌, ◌⊎◌, inl, inr, ℕ, zero, suc, ℤ, pos, negsuc, arith, List, [], ◌∷◌, ◌++◌, Bool, true, false, length, drop, reverse, Option, Some, None, slice_get, slice_index_or, slice_set, replicate, refl, sym, ap, subst, ◌∙◌, nat_eq, append_assoc, true≢false}
+use Rattle.std.proofs.Common.{◌≡◌, ◌≤◌, ◌<◌, ◌+◌, ◌*◌, ◌^◌, ◌⊎◌, inl, inr, ℕ, ℤ, pos, negsuc, arith, List, [], ◌∷◌, ◌++◌, Bool, true, false, length, drop, Option, Some, None, slice_set, refl, sym, ap, subst, ◌∙◌, nat_eq, append_assoc, true≢false}
 use Rattle.std.specs.Prelude.{fold, if◌then◌else◌, nat_lt}
-use Rattle.std.proofs.lemmas.List.{append-nil, reverse-append}
 use Rattle.std.proofs.lemmas.Bool.Decides.{nat_tests}
 use Rattle.indexmap.specs.IndexSet.{insert_key}
 use Rattle.dvi_ops.specs.Command.{Command}
@@ -12,27 +11,26 @@ use Rattle.std.proofs.Math.ListN.{drop_of_length-le}
 use Rattle.dvi_doc.specs.declared.font.FontKey.{FontKey}
 use Rattle.font_set.specs.Views.{key_of}
 use Rattle.font_set.specs.Key.{Key, same_key}
-use Rattle.font_set.specs.Fonts.{State, Entry, FontSet, place_of, state_at, IsLoaded}
+use Rattle.font_set.specs.Fonts.{FontSet, place_of, state_at, IsLoaded}
 use Rattle.font_set.specs.Programs.{Named, Scope, Program, key_in, key_of_first}
-use Rattle.font_set.specs.Acts.{Act, Every, IsRun, Inside, Reached, RunsAt, IsReached}
+use Rattle.font_set.specs.Acts.{Every, Inside}
 use Rattle.font_set.specs.Acts.Act.{Selects, Runs, Wrong}
-use Rattle.font_set.specs.Frames.{Char, FontAct, acts_from, acts_with_first, acts_of, acts_of_command, char_act, select_act, selected, body}
-use Rattle.font_set.specs.Covers.{IsGood, IsShown, Covers}
-use Rattle.font_set.specs.LoadFaults.{selected_after, CommandOf, IsCharCommand}
+use Rattle.font_set.specs.Frames.{Char, FontAct, acts_from, acts_with_first, acts_of, acts_of_command, char_act, select_act, selected}
+use Rattle.font_set.specs.Covers.{IsGood, IsShown}
+use Rattle.font_set.specs.LoadFaults.{selected_after}
 use Rattle.font_set.specs.Growth.{Extends, Learnt, Loaded, keys_now}
 use Rattle.font_set.specs.Locals.{FirstAnswer}
-use Rattle.font_set.specs.Search.{LearntFirst, program_of, program_or, bytes_of, first_of, IsHome, IsSel, rooted, root, Next, Tells, IsTurn, moves, SameStates, LoadsOnly}
+use Rattle.font_set.specs.Search.{LearntFirst, program_of, program_or, bytes_of, first_of, IsHome, IsSel, rooted, root, Tells, IsTurn, moves, SameStates, LoadsOnly}
 use Rattle.font_set.specs.declared.agenda.Home.{Home}
 use Rattle.font_set.specs.declared.agenda.Home.TheVariants as home
 use Rattle.font_set.specs.declared.agenda.Place.{Place}
-use Rattle.font_set.specs.declared.turn.Does.{Does}
 use Rattle.font_set.specs.declared.turn.Does.TheVariants as does
 use Rattle.font_set.specs.declared.turn.Turn.{Turn}
-use Rattle.font_set.specs.Progress.{Frame, Search, Seen}
+use Rattle.font_set.specs.Progress.{Search}
 use Rattle.font_set.specs.Found.{In, IsMarked, FontFrame, IsChar, HasSeen, IsAt, Pairs, Found, TurnHere}
-use Rattle.font_set.proofs.Order.{begin, take_select, skip, enter, leave, ended, all_visited, in_order, every_at}
+use Rattle.font_set.proofs.Order.{begin, take_select, skip, enter, leave, in_order}
 use Rattle.font_set.proofs.Ids.{one_key, id_below, same_self}
-use Rattle.font_set.proofs.Growing.{extends_self, extends_on, state_later, loaded_later, program_same, bytes_same, home_later, sel_later, shown_loaded, good_place, good_of, good_later, body_is, rooted_char, rooted_root, rooted_is, marked_split}
+use Rattle.font_set.proofs.Growing.{extends_self, extends_on, program_same, bytes_same, home_later, sel_later, shown_loaded, good_of, good_later, rooted_root, rooted_is, marked_split}
 
 pub runs_it : (k : Key) (code : ℕ) → code < 256 → char_act (Some k) (pos code) ≡ Runs (record { key = k; code = code })
 runs_it k code l = grind (arith, nat_tests)

@@ -1,5 +1,5 @@
 -- What a set gains from one call, and from one call after another.
-use Rattle.std.proofs.Common.{◌≡◌, ◌≤◌, ◌<◌, ◌+◌, ◌⊎◌, inl, inr, ℕ, zero, suc, arith, Bool, true, false, List, [], ◌∷◌, ◌++◌, length, Option, Some, None, slice_get, refl, sym, ap, subst, ◌∙◌, nat_eq, nat_lt}
+use Rattle.std.proofs.Common.{◌≡◌, ◌<◌, ◌+◌, ◌⊎◌, inl, inr, ℕ, zero, suc, arith, Bool, true, false, List, [], ◌∷◌, length, Option, Some, None, slice_get, refl, sym, ap, subst, ◌∙◌, nat_eq, nat_lt}
 use Rattle.std.proofs.lemmas.Bool.Decides.{nat_tests}
 use Rattle.std.proofs.lemmas.List.{length_push}
 use Rattle.dv_base.specs.Shelf.{Contents, WhereHeld}
@@ -10,8 +10,7 @@ use Rattle.font_set.specs.Fonts.{State, Entry, FontSet, place_of, learn, learn_b
 use Rattle.font_set.specs.FontOf.{FontOf, LoadsAs, Loads}
 use Rattle.font_set.specs.Growth.{Extends, Learnt, Loaded}
 use Rattle.font_set.specs.Gains.{Gains}
-use Rattle.font_set.specs.Search.{SameStates, LoadsOnly}
-use Rattle.font_set.proofs.Growing.{extends_self, extends_on, state_later, loaded_later}
+use Rattle.font_set.proofs.Growing.{extends_self, extends_on, state_later}
 use Rattle.font_set.proofs.Keys.{place_new}
 use Rattle.font_set.proofs.States.{learn_states, loads_only}
 

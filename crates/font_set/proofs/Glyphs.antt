@@ -1,5 +1,5 @@
 -- A character of a real font that is loaded, where it is met for the first time.
-use Rattle.std.proofs.Common.{◌≡◌, ◌<◌, ◌+◌, ◌*◌, ◌∙◌, ℕ, ℤ, pos, List, [], ◌∷◌, Bool, true, false, length, Option, Some, None, slice_index_or, slice_set, refl, sym, ap, subst, arith, true≢false}
+use Rattle.std.proofs.Common.{◌≡◌, ◌<◌, ◌+◌, ◌*◌, ◌∙◌, ℕ, pos, List, ◌∷◌, Bool, true, false, length, Option, Some, None, slice_index_or, slice_set, refl, sym, ap, subst, arith, true≢false}
 use Rattle.std.specs.Prelude.{unsigned_abs}
 use Rattle.font_set.specs.Covers.{IsShown}
 use Rattle.font_set.specs.Fonts.{FontSet, state_at, packet_at}

@@ -1,19 +1,16 @@
 -- What stays when a set grows.
-use Rattle.std.proofs.Common.{◌≡◌, ◌≤◌, ◌<◌, ◌+◌, ◌⊎◌, inl, inr, ℕ, zero, suc, arith, List, [], ◌∷◌, ◌++◌, Bool, true, false, length, drop, Option, Some, None, slice_get, slice_index_or, slice_set, ◌-◌, refl, sym, ap, subst, ◌∙◌, nat_eq}
+use Rattle.std.proofs.Common.{◌≡◌, ◌<◌, ◌+◌, ◌⊎◌, inl, inr, ℕ, zero, suc, arith, List, [], ◌∷◌, Bool, true, false, length, Option, Some, None, slice_index_or, slice_set, refl, sym, ap, subst, ◌∙◌, nat_eq}
 use Rattle.dv_base.specs.declared.units.Units.{Units}
-use Rattle.dvi_ops.specs.Placed.{Placed, Lexes}
-use Rattle.font_set.specs.Key.{Key, same_key}
+use Rattle.font_set.specs.Key.{Key}
 use Rattle.std.proofs.lemmas.Bool.Decides.{nat_tests}
-use Rattle.font_set.specs.Fonts.{State, Entry, FontSet, place_of, state_at, size_at, packet_at, packet_in, size_in, state_in, IsLoaded}
+use Rattle.font_set.specs.Fonts.{State, FontSet, place_of, state_at, size_at, packet_at, packet_in, size_in, state_in, IsLoaded}
 use Rattle.font_set.specs.Programs.{Program, program_at, program_in}
-use Rattle.font_set.specs.Frames.{Char, FontAct, acts_of, acts_of_packet, acts_from, body, body_at}
-use Rattle.font_set.specs.Acts.{Act}
-use Rattle.font_set.specs.Acts.Act.{Selects, Runs, Wrong}
+use Rattle.font_set.specs.Frames.{Char, acts_of, acts_of_packet, acts_from, body, body_at}
+use Rattle.font_set.specs.Acts.Act.{Runs}
 use Rattle.font_set.specs.Covers.{IsGood, IsShown, IsShownAt}
 use Rattle.font_set.specs.Found.{unmarked}
 use Rattle.font_set.specs.Growth.{Extends}
 use Rattle.font_set.specs.Search.{program_of, program_or, or_empty, bytes_of, bytes_or, IsHome, IsSel, rooted, root}
-use Rattle.font_set.specs.declared.agenda.Place.{Place}
 use Rattle.font_set.specs.declared.agenda.Home.{Home}
 use Rattle.font_set.specs.declared.agenda.Home.TheVariants as home
 

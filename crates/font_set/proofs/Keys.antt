@@ -1,11 +1,11 @@
 -- Places of keys.
-use Rattle.std.proofs.Common.{◌≡◌, ◌<◌, ◌≤◌, ℕ, ◌+◌, arith, List, [], ◌∷◌, ◌++◌, length, Option, Some, None, Bool, true, false, refl, sym, ap, subst, ◌∙◌, cond, nat_lt, not, eqb}
+use Rattle.std.proofs.Common.{◌≡◌, ◌≤◌, ℕ, ◌+◌, arith, List, [], ◌∷◌, ◌++◌, length, Option, Some, None, Bool, true, false, refl, sym, ap, ◌∙◌, cond, nat_lt, not, eqb}
 use Rattle.std.proofs.lemmas.List.{length-map, length_push}
 use Rattle.std.proofs.lemmas.List.Folds.{position_or_len_push}
 use Rattle.std.proofs.lemmas.List.Sums.{prefix_len-le-length}
 use Rattle.std.specs.Cmp.Lexicographic.{pointwise, bytes_decides}
 use Rattle.std.proofs.lemmas.Bool.Decides.{nat_tests}
-use Rattle.std.specs.Prelude.{map, position, nat_eq}
+use Rattle.std.specs.Prelude.{position, nat_eq}
 use Rattle.std.specs.List.{position_or_len}
 use Rattle.std.specs.Map.{keys_of}
 use Rattle.std.specs.Option.{is_some}
@@ -14,9 +14,9 @@ use Rattle.indexmap.proofs.CallerLemmas.{insert_entry-new}
 use Rattle.dvi_doc.specs.declared.font.FontKey.{FontKey}
 use Rattle.dvi_doc.specs.contracts.font.FontKeyPartialEq.TheImpl.{eq-value}
 use Rattle.font_set.specs.Key.{Key, same_key}
-use Rattle.font_set.specs.Fonts.{State, Entry, place_of, learn, learn_by}
+use Rattle.font_set.specs.Fonts.{State, Entry, place_of, learn}
 use Rattle.font_set.specs.Views.{key_of}
-use Rattle.font_set.specs.Stored.{state_of, entry_of, entries_of}
+use Rattle.font_set.specs.Stored.{entry_of, entries_of}
 use Rattle.font_set.specs.declared.font.Font.{Font}
 use Rattle.font_set.specs.declared.font.Font.TheVariants as font
 

@@ -1,19 +1,18 @@
 -- What was said of a page stays true when the set grows.
-use Rattle.std.proofs.Common.{◌≡◌, ◌<◌, ◌+◌, ◌⊎◌, inl, inr, ℕ, zero, suc, ℤ, pos, List, [], ◌∷◌, ◌++◌, Option, Some, None, refl, sym, ap, subst, ◌∙◌, append_assoc}
-use Rattle.std.proofs.lemmas.List.{append-nil}
+use Rattle.std.proofs.Common.{◌≡◌, ◌<◌, inl, inr, ℕ, zero, suc, ℤ, pos, List, [], ◌∷◌, ◌++◌, Option, Some, None, refl, sym, ap, subst, ◌∙◌, append_assoc}
 use Rattle.dv_base.specs.declared.units.Units.{Units}
 use Rattle.dvi_ops.specs.Command.{Command}
-use Rattle.dvi_ops.specs.Command.Command.{Set, Put, Fnt}
+use Rattle.dvi_ops.specs.Command.Command.{Set, Put}
 use Rattle.dvi_ops.specs.Placed.{Placed}
 use Rattle.font_set.specs.Key.{Key}
 use Rattle.font_set.specs.Fonts.{State, FontSet, place_of, state_at, size_at, IsLoaded}
 use Rattle.font_set.specs.Programs.{Named, Scope, Program, program_at, program_in, key_of_first, id_of}
-use Rattle.font_set.specs.Acts.{Act, Every, IsRun, RunsAt, IsReached}
+use Rattle.font_set.specs.Acts.{Every, IsRun, RunsAt, IsReached}
 use Rattle.font_set.specs.Acts.Act.{Selects, Runs, Wrong}
 use Rattle.font_set.specs.Frames.{Char, FontAct, acts_from, acts_with_first, acts_of, acts_of_command, acts_of_packet, char_act, select_act, selected, body, body_at}
 use Rattle.font_set.specs.Covers.{IsGood, IsKnownAt, Covers, IsSet}
 use Rattle.font_set.specs.Growth.{Extends}
-use Rattle.font_set.specs.LoadFaults.{selected_after, CommandOf, PacketOf, InSome, IsCharCommand, SetsIn, SelectsKey, MustKnow, MustLoad}
+use Rattle.font_set.specs.LoadFaults.{selected_after, PacketOf, InSome, IsCharCommand, SetsIn, SelectsKey, MustKnow, MustLoad}
 use Rattle.font_set.specs.Search.{program_or, or_empty}
 use Rattle.font_set.proofs.Order.{every_at}
 use Rattle.font_set.proofs.Growing.{program_later, body_is, good_place, good_later, shown_loaded}

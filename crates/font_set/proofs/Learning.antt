@@ -1,12 +1,11 @@
 -- A key is made known.
-use Rattle.std.proofs.Common.{◌≡◌, ◌≤◌, ◌<◌, ◌+◌, ◌||◌, ℕ, zero, suc, arith, List, [], ◌∷◌, ◌++◌, length, Option, Some, None, Bool, true, false, slice_get, refl, sym, ap, subst, ◌∙◌, cond, nat_lt, not, eqb, if◌then◌else◌}
-use Rattle.std.specs.Prelude.{map, position}
-use Rattle.std.specs.List.{position_or_len, list_any, AllByRecursion, sum_by}
+use Rattle.std.proofs.Common.{◌≡◌, ◌≤◌, ◌<◌, ◌+◌, ◌||◌, ℕ, zero, suc, arith, List, [], ◌∷◌, ◌++◌, length, Option, Some, None, Bool, true, false, slice_get, refl, sym, ap, subst, ◌∙◌, cond, nat_lt, not}
+use Rattle.std.specs.Prelude.{map}
+use Rattle.std.specs.List.{position_or_len, list_any, AllByRecursion}
 use Rattle.std.proofs.lemmas.List.{length_push}
 use Rattle.std.proofs.lemmas.List.Folds.{position_or_len_push}
 use Rattle.std.proofs.lemmas.List.Sums.{prefix_len-le-length, sum_by_push}
 use Rattle.std.proofs.lemmas.Bool.Decides.{nat_tests}
-use Rattle.indexmap.specs.IndexSet.{insert_key}
 use Rattle.font_set.specs.Key.{Key, IsKey, same_key}
 use Rattle.font_set.specs.Fonts.{State, Entry, FontSet, place_of, learn, learn_by, state_at, state_in, IsLoaded, raster_bytes, raster_bytes_in}
 use Rattle.font_set.specs.Growth.{keys_now, Extends, Learnt}

@@ -1,17 +1,17 @@
 -- A font is loaded.
-use Rattle.std.proofs.Common.{◌≡◌, ◌≤◌, ◌<◌, ◌+◌, ℕ, zero, suc, arith, List, [], ◌∷◌, length, Option, Some, None, Bool, slice_get, refl, sym, ap, subst, ◌∙◌, cond, nat_lt, not}
-use Rattle.std.specs.Prelude.{map, position}
-use Rattle.std.specs.List.{position_or_len, AllByRecursion, sum_by}
+use Rattle.std.proofs.Common.{◌≡◌, ◌≤◌, ◌<◌, ◌+◌, ℕ, zero, suc, arith, List, [], ◌∷◌, length, Option, Some, None, slice_get, refl, sym, ap, subst, ◌∙◌, cond, nat_lt, not}
+use Rattle.std.specs.Prelude.{map}
+use Rattle.std.specs.List.{position_or_len, AllByRecursion}
 use Rattle.std.proofs.lemmas.List.Sums.{sum_by-cons}
 use Rattle.indexmap.specs.Layout.{set_value_at}
 use Rattle.dv_base.specs.Shelf.{Contents, WhereHeld}
 use Rattle.dv_base.specs.declared.units.Units.{Units}
 use Rattle.dvi_doc.specs.declared.font.FontKey.{FontKey}
 use Rattle.font_set.specs.Key.{Key, same_key}
-use Rattle.font_set.specs.Fonts.{State, Entry, FontSet, place_of, state_at, state_in, entry_key, key_at, IsLoaded, raster_bytes, raster_bytes_in}
+use Rattle.font_set.specs.Fonts.{State, Entry, FontSet, place_of, state_at, state_in, entry_key, IsLoaded, raster_bytes, raster_bytes_in}
 use Rattle.font_set.specs.Files.{with_state}
 use Rattle.font_set.specs.FontOf.{FontOf, LoadsAs, Loads}
-use Rattle.font_set.specs.Growth.{keys_now, Extends, Loaded}
+use Rattle.font_set.specs.Growth.{keys_now, Loaded}
 use Rattle.font_set.specs.Stored.{AreStored, HasWanted, HaveWanted, IsStored, IsSound, entry_of, entries_of, state_of}
 use Rattle.font_set.specs.declared.font.Font.{Font}
 use Rattle.font_set.specs.declared.want.Want.{Want}

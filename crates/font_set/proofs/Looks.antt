@@ -1,14 +1,13 @@
 -- What is known of a font, by its state.
-use Rattle.std.proofs.Common.{◌≡◌, ◌≤◌, ◌<◌, ◌^◌, ◌⊎◌, inl, inr, ◌↔◌, ℕ, ℤ, pos, negsuc, arith, Bool, true, false, List, [], ◌∷◌, map, Option, Some, None, slice_get, refl, sym, ap, subst, ◌∙◌, if◌then◌else◌, slice_index_or, length, zero, suc}
-use Rattle.std.specs.Prelude.{unsigned_abs, IsTrue, Result, Ok, Err, IfOk, IfErr}
+use Rattle.std.proofs.Common.{◌≡◌, ◌<◌, inl, inr, ◌↔◌, ℕ, ℤ, pos, negsuc, arith, Bool, true, false, List, [], ◌∷◌, map, Option, Some, None, slice_get, refl, sym, ap, subst, ◌∙◌, if◌then◌else◌, zero, suc}
+use Rattle.std.specs.Prelude.{IsTrue, Result, Ok, Err, IfOk, IfErr}
 use Rattle.std.specs.List.{AllByRecursion, Contains}
 use Rattle.std.specs.Ordering.{int_eq}
 use Rattle.dv_base.specs.FontName.{IsFontName}
 use Rattle.dvi_doc.specs.declared.font.FontKey.{FontKey}
-use Rattle.vf_packets.specs.Font.{LocalFont, VirtualFont, Apart, Has, packet_of, first_number}
+use Rattle.vf_packets.specs.Font.{LocalFont, VirtualFont, Apart, Has, first_number}
 use Rattle.pk_raster.specs.Font as pk_font
-use Rattle.font_set.specs.Key.{Key}
-use Rattle.font_set.specs.Fonts.{State, Entry, FontSet, key_at, state_at, size_at, entry_key, state_in, vf_in, pk_in, packet_at, packet_by, bitmap_at, bitmap_by, kept_bitmap, fix_word_in, Mismatches, IsMismatched}
+use Rattle.font_set.specs.Fonts.{State, Entry, FontSet, key_at, state_at, size_at, state_in, vf_in, pk_in, bitmap_at, bitmap_by, kept_bitmap, fix_word_in, Mismatches, IsMismatched}
 use Rattle.font_set.specs.Programs.{Named, HasNumber, key_in, head_of, locals_at, locals_in, locals_of, local_named, local_fonts}
 use Rattle.pk_raster.specs.Laws.{AreRows}
 use Rattle.font_set.specs.Stored.{IsSound, IsStored, AreStored, HasWanted, HaveWanted, IsFit, AreDrawn, IsFine, entry_of, state_of}

@@ -11,7 +11,7 @@ use Rattle.vf_packets.specs.File.{IsVf}
 use Rattle.vf_packets.specs.Laws as vf
 use Rattle.font_set.specs.Key.{Key}
 use Rattle.font_set.specs.Fonts.{State}
-use Rattle.font_set.specs.FontOf.{FontOf, HasTfm, HasVf, HasPk, HasRasters, IsReal, WantsPackets, tfm_name, vf_name, pk_names, first_of}
+use Rattle.font_set.specs.FontOf.{HasTfm, HasVf, HasPk, HasRasters, IsReal, WantsPackets, tfm_name, vf_name, pk_names, first_of}
 use Rattle.font_set.specs.Alike.{OneFontOf}
 use Rattle.font_set.specs.declared.want.Want.{Want}
 use Rattle.font_set.specs.declared.want.Want.TheVariants as wants

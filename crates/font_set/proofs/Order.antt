@@ -6,7 +6,7 @@ use Rattle.std.specs.List.{list_any}
 use Rattle.indexmap.specs.IndexSet.{insert_key}
 use Rattle.font_set.specs.Acts.{Act, Every, IsRun, HasBy, Inside, Reached}
 use Rattle.font_set.specs.Acts.Act.{Selects, Runs, Wrong}
-use Rattle.font_set.specs.Progress.{Frame, Knows, Seen, IsOpen, Under, Chain, Pending, Search}
+use Rattle.font_set.specs.Progress.{Frame, Knows, Seen, IsOpen, Chain, Pending, Search}
 
 module _ {K P : Type 0} where
   -- two lists of acts, and their keys

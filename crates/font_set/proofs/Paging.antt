@@ -1,5 +1,5 @@
 -- The page of a document that was read.
-use Rattle.std.proofs.Common.{◌≡◌, ◌≤◌, ◌<◌, ◌+◌, ◌-◌, ◌^◌, ℕ, List, [], ◌∷◌, length, map, drop, get_or, Option, Some, None, arith, refl, sym, ap, subst, ◌∙◌}
+use Rattle.std.proofs.Common.{◌≡◌, ◌≤◌, ◌<◌, ◌+◌, ◌-◌, ◌^◌, ℕ, List, length, map, drop, get_or, Some, None, arith, refl, sym, ap, subst, ◌∙◌}
 use Rattle.std.specs.Prelude.{slice_get, slice_range}
 use Rattle.std.specs.Option.{option_map}
 use Rattle.std.proofs.lemmas.List.{length-take, length-drop}
@@ -7,14 +7,13 @@ use Rattle.std.proofs.lemmas.Option.{slice_get-map, get_or_from_slice_get}
 use Rattle.std.proofs.Math.ListN.{get_or-map}
 use Rattle.dvi_ops.specs.Command.{Definition}
 use Rattle.dvi_ops.specs.Placed.{Placed, Lexes}
-use Rattle.dvi_ops.specs.Reading.{commands_in}
 use Rattle.dvi_ops.specs.Laws.{OneReading}
 use Rattle.dvi_doc.specs.Document.{Document, PageOf}
 use Rattle.dvi_doc.specs.Grammar.{AllInner, IsDoc}
 use Rattle.dvi_doc.specs.View.{IsRead, Outline, ReadDoc, outline, page_view}
 use Rattle.dvi_doc.specs.declared.page.Page.{Page}
 use Rattle.font_set.specs.Search.{or_none, page_in, page_of, program_in}
-use Rattle.font_set.specs.Found.{PageBytes, IsPage}
+use Rattle.font_set.specs.Found.{IsPage}
 
 same_some : {X : Type 0} (x y : X) → Some x ≡ Some y → x ≡ y
 same_some x y e = cc

@@ -1,8 +1,8 @@
 -- Where a set with the fonts of the same files covers a page, no fault of loading is there.
-use Rattle.std.proofs.Common.{◌≡◌, ◌≢◌, ◌≤◌, ◌<◌, ◌+◌, ◌-◌, ◌^◌, ◌⊎◌, inl, inr, ℕ, zero, suc, ℤ, pos, negsuc, arith, Bool, true, false, List, [], ◌∷◌, ◌++◌, length, Option, Some, None, refl, sym, ap, subst, ◌∙◌, nat_lt}
+use Rattle.std.proofs.Common.{◌≡◌, ◌≤◌, ◌<◌, ◌+◌, ◌^◌, ◌⊎◌, inl, inr, ℕ, ℤ, pos, negsuc, arith, Bool, true, false, List, [], ◌∷◌, ◌++◌, length, Option, Some, None, refl, sym, ap, subst, ◌∙◌, nat_lt}
 use Rattle.std.specs.Prelude.{if◌then◌else◌}
 use Rattle.std.specs.Ordering.{int_eq}
-use Rattle.std.proofs.lemmas.Bool.Decides.{Decides-int_eq, nat_tests}
+use Rattle.std.proofs.lemmas.Bool.Decides.{Decides-int_eq}
 use Rattle.dv_base.specs.Causes.{Rose}
 use Rattle.dv_base.specs.FileName.{text_of}
 use Rattle.dv_base.specs.Shelf.{Contents, Told, WhereHeld, IsLong}
@@ -13,24 +13,22 @@ use Rattle.dvi_ops.specs.Command.{Command}
 use Rattle.dvi_ops.specs.Command.Command.{Fnt}
 use Rattle.dvi_ops.specs.Placed.{Placed}
 use Rattle.tfm_widths.specs.Widths.{Table, IsTfm, width_in}
-use Rattle.vf_packets.specs.Font.{VirtualFont, LocalFont, packet_of}
+use Rattle.vf_packets.specs.Font.{VirtualFont, packet_of}
 use Rattle.vf_packets.specs.File.{IsVf}
 use Rattle.pk_raster.specs.Font.{Font, Known, size, glyph_at}
 use Rattle.pk_raster.specs.Font.Known.{Nothing, Large}
 use Rattle.pk_raster.specs.File.{IsPk}
 use Rattle.pk_raster.specs.Faults.{NoFont}
 use Rattle.font_set.specs.Key.{Key}
-use Rattle.font_set.specs.LocalKey.{local_key}
-use Rattle.font_set.specs.Fonts.{State, FontSet, place_of, kept_bitmap, key_at, state_at, size_at, width_at, width_of, width_by, packet_at, packet_in, IsLoaded, IsVirtual, raster_bytes, raster_bytes_in}
-use Rattle.font_set.specs.FontOf.{FontOf, HasTfm, HasVf, HasPk, HasRasters, IsReal, WantsPackets, WantsRasters, tfm_name, vf_name, pk_names, first_of, or_else, most_tfm, most_file}
-use Rattle.font_set.specs.FontFaults.{NotLoaded, IsRealBy, IsTried, IsPkFile, IsFontFile, HasNoPk, IsMissing, IsFull, IsFirstPk, raster_room}
+use Rattle.font_set.specs.Fonts.{State, FontSet, place_of, kept_bitmap, state_at, size_at, width_at, width_of, width_by, packet_at, packet_in, IsLoaded, IsVirtual, raster_bytes, raster_bytes_in}
+use Rattle.font_set.specs.FontOf.{FontOf, HasTfm, HasVf, HasPk, IsReal, WantsPackets, WantsRasters, tfm_name, vf_name, pk_names, first_of, or_else, most_tfm, most_file}
+use Rattle.font_set.specs.FontFaults.{NotLoaded, IsTried, IsPkFile, IsFontFile, IsMissing, IsFull, IsFirstPk, raster_room}
 use Rattle.font_set.specs.Programs.{Named, Scope, Program, HasNumber, key_in, program_at, program_in, packet_program, lexed, locals_at, locals_in, locals_of, local_named, head_of, key_of_first, id_of}
 use Rattle.font_set.specs.Acts.{Every}
 use Rattle.font_set.specs.Acts.Act.{Runs, Wrong}
 use Rattle.font_set.specs.Frames.{FontAct, acts_from, acts_with_first, acts_of, acts_of_command, char_act, select_act, selected}
-use Rattle.font_set.specs.Covers.{Covers, HasBitmap, IsGood, IsKnownAt, IsShown, IsThere}
-use Rattle.font_set.specs.Locals.{BadFirst, BadNumber}
-use Rattle.font_set.specs.LoadFaults.{selected_after, CommandOf, PacketOf, InFrame, InSome, IsCharCommand, SelectsNone, SetsNowhere, SetsIn, HasNoWidth, look_at, look_in, look_by, SelectsKey, MustKnow, MustLoad, SelectsBad, CantLoad, FontFaultIs, LoadFaultIs}
+use Rattle.font_set.specs.Covers.{Covers, IsGood, IsKnownAt, IsShown, IsThere}
+use Rattle.font_set.specs.LoadFaults.{selected_after, CommandOf, PacketOf, InFrame, InSome, IsCharCommand, SelectsNone, SetsNowhere, SetsIn, HasNoWidth, look_at, look_in, SelectsKey, MustKnow, MustLoad, SelectsBad, CantLoad, FontFaultIs, LoadFaultIs}
 use Rattle.font_set.specs.Alike.{Alike, HaveTwins, OneFontOf, Twin, WhatCanBeHadIsHad}
 use Rattle.font_set.specs.declared.fault.FontFault.{FontFault}
 use Rattle.font_set.specs.declared.fault.FontFault.TheVariants as font
@@ -39,9 +37,9 @@ use Rattle.font_set.specs.declared.fault.LoadFault.{LoadFault}
 use Rattle.font_set.specs.declared.fault.LoadFault.TheVariants as load
 use Rattle.font_set.specs.declared.want.Want.{Want}
 use Rattle.font_set.specs.declared.want.Want.TheVariants as wants
-use Rattle.font_set.proofs.Alike.{key_is, state_twin, program_twin, width_twin, same_packet, same_frame}
+use Rattle.font_set.proofs.Alike.{key_is, state_twin, same_packet, same_frame}
 use Rattle.font_set.proofs.Growing.{good_place, shown_loaded}
-use Rattle.font_set.proofs.Later.{acts_split, behind_first, char_acts, packet_body, packet_loaded}
+use Rattle.font_set.proofs.Later.{acts_split, behind_first, char_acts, packet_body}
 use Rattle.font_set.proofs.OneFont.{not_both, none_some, same_bytes}
 use Rattle.font_set.proofs.Shelves.{first_of_append}
 use Rattle.font_set.proofs.Sums.{bytes_more, one_more}

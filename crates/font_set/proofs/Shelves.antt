@@ -1,5 +1,5 @@
 -- Files of a font on a shelf.
-use Rattle.std.proofs.Common.{◌≡◌, ◌≤◌, ◌<◌, ◌+◌, ◌-◌, ◌^◌, ◌++◌, ◌⊎◌, inl, inr, ℕ, zero, suc, arith, List, [], ◌∷◌, length, Option, Some, None, Bool, true, false, refl, sym, ap, subst, ◌∙◌, append_assoc, nat_lt, min, if◌then◌else◌}
+use Rattle.std.proofs.Common.{◌≡◌, ◌≤◌, ◌<◌, ◌+◌, ◌-◌, ◌++◌, inl, inr, ℕ, arith, List, [], ◌∷◌, length, Option, Some, None, Bool, false, refl, sym, ap, subst, ◌∙◌, append_assoc, nat_lt, if◌then◌else◌}
 use Rattle.std.specs.List.{Contains}
 use Rattle.std.proofs.lemmas.List.Elements.{Contains-append_left, Contains-append_right}
 use Rattle.std.proofs.lemmas.Bool.Decides.{nat_tests}
@@ -11,8 +11,8 @@ use Rattle.vf_packets.specs.Font.{VirtualFont}
 use Rattle.vf_packets.specs.File.{IsVf}
 use Rattle.font_set.specs.Key.{Key}
 use Rattle.font_set.specs.Fonts.{FontSet}
-use Rattle.font_set.specs.FontOf.{HasVf, tfm_name, vf_name, pk_name, pk_names, above_zero, resolution, first_of, or_else, most_file, IsReal, WantsPackets, WantsRasters}
-use Rattle.font_set.specs.FontFaults.{NotLoaded, IsRealBy, IsTried, IsPkFile, IsFontFile, HasNoPk, IsMissing, BadTfm, BadVf, BadPk, IsFirstPk, NoRoom}
+use Rattle.font_set.specs.FontOf.{HasVf, vf_name, pk_name, pk_names, above_zero, resolution, first_of, or_else, most_file, IsReal, WantsPackets, WantsRasters}
+use Rattle.font_set.specs.FontFaults.{NotLoaded, IsRealBy, IsTried, IsPkFile, IsFontFile, IsMissing, IsFirstPk}
 use Rattle.std.specs.Global.{Vec}
 use Rattle.font_set.specs.Files.{NotRead, CandidateGives, IsPkFound}
 use Rattle.font_set.specs.declared.fault.FontFault.{FontFault}

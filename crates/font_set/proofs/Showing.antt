@@ -1,5 +1,5 @@
 -- What a loaded font has of a character, and how its packet begins.
-use Rattle.std.proofs.Common.{◌≡◌, ◌≤◌, ◌<◌, ℕ, ℤ, pos, Bool, true, false, List, [], ◌∷◌, length, Option, Some, None, refl, sym, ap, subst, ◌∙◌, arith}
+use Rattle.std.proofs.Common.{◌≡◌, ℕ, ℤ, pos, List, [], Option, Some, None, refl, sym, ap, subst, ◌∙◌}
 use Rattle.dv_base.specs.declared.units.Units.{Units}
 use Rattle.dvi_ops.specs.Placed.{Placed, Lexes}
 use Rattle.dvi_ops.specs.Reading.{commands_in}
@@ -8,11 +8,11 @@ use Rattle.tfm_widths.specs.Widths.{Table, width_in}
 use Rattle.vf_packets.specs.Font.{VirtualFont, packet_of}
 use Rattle.vf_packets.specs.Programs.{IsProgram}
 use Rattle.pk_raster.specs.Font.{Font, Known, glyph_at}
-use Rattle.pk_raster.specs.Font.Known.{Nothing, Large, Bits}
+use Rattle.pk_raster.specs.Font.Known.{Nothing, Large}
 use Rattle.font_set.specs.Fonts.{State, FontSet, kept_bitmap, state_at, size_at, width_at, width_of, width_by, packet_at, packet_in, IsLoaded, IsVirtual}
 use Rattle.font_set.specs.Programs.{Named, Program, program_at, program_in, packet_program, lexed, locals_at, locals_of, locals_in, head_of}
 use Rattle.font_set.specs.Covers.{IsShown, IsThere, HasBitmap}
-use Rattle.font_set.specs.LoadFaults.{look_at, look_in, look_by}
+use Rattle.font_set.specs.LoadFaults.{look_at, look_in}
 use Rattle.font_set.specs.Search.{program_or, or_empty, bytes_or, IsLookFault, IsCharFault}
 use Rattle.font_set.specs.Locals.{FirstAnswer}
 use Rattle.font_set.specs.declared.fault.LoadFault.{LoadFault}

@@ -1,6 +1,6 @@
 -- Bounds of widths and resolutions.
 use Rattle.std.proofs.Common.{◌≡◌, ◌⊎◌, inl, inr, ℕ, zero, suc, ◌+◌, ◌-◌, ◌*◌, ◌/◌, ◌^◌, ◌<◌, ◌≤◌, ℤ, pos, negsuc, ◌+ℤ◌, ◌-ℤ◌, ◌*ℤ◌, ◌<ℤ◌, ◌≤ℤ◌, ◌||◌, to_z, of_z, w8, w64, Fits, Bool, true, false, List, drop, arith, refl, ap, sym, subst, ◌∙◌, nat_lt, Option, Some, None, slice_index, if◌then◌else◌}
-use Rattle.std.specs.Prelude.{unsigned_abs, ◌==◌, map, slice_index_or}
+use Rattle.std.specs.Prelude.{unsigned_abs, ◌==◌, slice_index_or}
 use Rattle.std.proofs.lemmas.Bool.Decides.{nat_tests}
 use Rattle.std.proofs.lemmas.Int.{ints, unsigned_abs-mul, to_z-of_z, fits_signed_from_abs}
 use Rattle.std.proofs.lemmas.Nat.{mul-le}
@@ -8,10 +8,10 @@ use Rattle.std.proofs.lemmas.List.{get_or-drop}
 use Rattle.std.proofs.lemmas.List.FromFn.{get_or-map-range_with_len}
 use Rattle.byteorder.specs.Endian.{big_number, twos_complement}
 use Rattle.dv_base.specs.Numbers.{signed}
-use Rattle.dv_base.specs.Scale.{halvings, first_byte, other_bytes, scaled, IsHalvings}
+use Rattle.dv_base.specs.Scale.{halvings, first_byte, other_bytes, scaled}
 use Rattle.dv_base.specs.ScaleLaws.{halvings-least}
-use Rattle.tfm_widths.specs.Lengths.{bc, ec, nw}
-use Rattle.tfm_widths.specs.Widths.{Table, IsTfm, IsSound, width_of, width_in, widths_below, fix_word, index_of, widths_at, width_byte}
+use Rattle.tfm_widths.specs.Lengths.{bc, ec}
+use Rattle.tfm_widths.specs.Widths.{Table, IsTfm, IsSound, width_of, width_in, widths_below, fix_word, index_of, widths_at}
 use Rattle.std.proofs.Math.Nat.{div-lt_iff_lt-mul}
 use Rattle.dv_base.specs.declared.units.Units.{Units}
 use Rattle.font_set.specs.Key.{Key, IsUnits}

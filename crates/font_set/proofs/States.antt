@@ -1,5 +1,5 @@
 -- A key that is made known loads no font, and loading a font loads no other.
-use Rattle.std.proofs.Common.{◌≡◌, ℕ, zero, suc, List, [], ◌∷◌, ◌++◌, Option, Some, None, slice_get, refl, sym, ap, subst, ◌∙◌}
+use Rattle.std.proofs.Common.{◌≡◌, ℕ, zero, suc, List, [], ◌∷◌, ◌++◌, Option, Some, None, slice_get, refl, ap, ◌∙◌}
 use Rattle.dv_base.specs.Shelf.{Contents}
 use Rattle.dv_base.specs.declared.units.Units.{Units}
 use Rattle.font_set.specs.declared.want.Want.{Want}

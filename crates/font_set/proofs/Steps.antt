@@ -1,32 +1,29 @@
 -- Each command of a frame is a step of the search.
-use Rattle.std.proofs.Common.{◌≡◌, ◌≤◌, ◌<◌, ◌+◌, ◌-◌, ◌*◌, ◌⊎◌, inl, inr, ℕ, zero, suc, ℤ, pos, arith, List, [], ◌∷◌, ◌++◌, Bool, true, false, length, drop, Option, Some, None, slice_get, slice_index_or, slice_set, Result, Ok, Err, refl, sym, ap, subst, ◌∙◌, true≢false}
+use Rattle.std.proofs.Common.{◌≡◌, ◌≤◌, ◌<◌, ◌+◌, ◌*◌, inl, inr, ℕ, ℤ, pos, arith, List, [], ◌∷◌, Bool, true, false, length, Option, Some, None, slice_index_or, slice_set, Result, Ok, Err, refl, sym, ap, subst, ◌∙◌}
 use Rattle.std.specs.Prelude.{OnOk, IfOk, IfErr}
-use Rattle.dvi_ops.specs.Placed.{Placed, Lexes}
 use Rattle.dvi_doc.specs.declared.font.FontKey.{FontKey}
-use Rattle.font_set.specs.Key.{Key, same_key}
-use Rattle.font_set.specs.Fonts.{FontSet, place_of, state_at, IsLoaded}
+use Rattle.font_set.specs.Key.{Key}
+use Rattle.font_set.specs.Fonts.{FontSet, place_of}
 use Rattle.font_set.specs.Views.{key_of}
 use Rattle.font_set.specs.Programs.{Program}
 use Rattle.font_set.specs.Frames.{acts_of}
 use Rattle.font_set.specs.Covers.{Covers}
-use Rattle.font_set.specs.Acts.{Inside}
 use Rattle.dv_base.specs.Shelf.{Contents, Told, Keeps}
 use Rattle.font_set.specs.FontFaults.{NotKnown}
 use Rattle.font_set.specs.LoadFaults.{InFrame, InSome, SetsNowhere, SetsIn, MustKnow, MustLoad, FontFaultIs, LoadFaultIs}
 use Rattle.font_set.specs.Gains.{Gains, GainsFor}
-use Rattle.font_set.specs.Growth.{Extends, Learnt, keys_now}
-use Rattle.font_set.specs.Search.{LearntFirst, program_of, bytes_of, first_of, spot_at, IsHome, IsSel, IsTurnFault, MeetFault, SameStates, InOrder, fonts_of, moves, rooted, root}
-use Rattle.font_set.specs.Found.{PageBytes, Todo, In, IsMarked, HasSeen, FoundAt, IsPlaced, Reads, Steps, Opens, Meets, IsPage, WasMet, LoadsSet, left_to_do, unmarked, ahead_sum}
+use Rattle.font_set.specs.Growth.{Extends, Learnt}
+use Rattle.font_set.specs.Search.{LearntFirst, program_of, bytes_of, first_of, spot_at, IsHome, IsSel, IsTurnFault, MeetFault, SameStates, InOrder, moves}
+use Rattle.font_set.specs.Found.{PageBytes, Todo, IsMarked, FoundAt, IsPlaced, Reads, Steps, Meets, IsPage, WasMet, LoadsSet, unmarked}
 use Rattle.font_set.specs.declared.agenda.Home.TheVariants as home
 use Rattle.font_set.specs.declared.agenda.Place.{Place}
 use Rattle.font_set.specs.declared.turn.Turn.{Turn}
 use Rattle.font_set.specs.declared.turn.Does.TheVariants as does
 use Rattle.font_set.specs.declared.fault.LoadFault.{LoadFault}
-use Rattle.font_set.specs.declared.fault.LoadFault.TheVariants as load
 use Rattle.font_set.specs.declared.fault.FontFault.{FontFault}
 use Rattle.font_set.proofs.Ids.{id_below}
-use Rattle.font_set.proofs.Growing.{extends_self, extends_on, unmarked_less, home_later}
-use Rattle.font_set.proofs.Finding.{Opened, opened, left, passed, took, skipped, entered, started, ordered, grown_loaded, turn_later, sel_key}
+use Rattle.font_set.proofs.Growing.{extends_self, extends_on, unmarked_less}
+use Rattle.font_set.proofs.Finding.{opened, left, passed, took, skipped, entered, started, ordered, grown_loaded, turn_later, sel_key}
 use Rattle.font_set.proofs.Ending.{covered, reached_in}
 use Rattle.font_set.specs.declared.fault.FontFault.TheVariants as font
 use Rattle.font_set.proofs.Faulting.{fonts_here, no_font, turn_fault, selects_in, sets_in}

@@ -1,12 +1,11 @@
 -- Fonts by their ids.
-use Rattle.std.proofs.Common.{◌≡◌, ◌≤◌, ◌<◌, ◌+◌, ℕ, zero, suc, arith, List, [], ◌∷◌, length, Option, Some, None, slice_get, refl, sym, ap, subst, ◌∙◌}
+use Rattle.std.proofs.Common.{◌≡◌, ◌≤◌, ℕ, zero, suc, arith, List, [], ◌∷◌, length, Option, Some, None, slice_get, refl, sym, ap, subst}
 use Rattle.std.specs.Prelude.{map}
 use Rattle.std.specs.List.{AllByRecursion}
 use Rattle.dvi_doc.specs.declared.font.FontKey.{FontKey}
-use Rattle.font_set.specs.Key.{Key}
-use Rattle.font_set.specs.Fonts.{State, Entry, FontSet, size_at, state_at, key_at, size_in, state_in, entry_key, raster_bytes}
+use Rattle.font_set.specs.Fonts.{Entry, FontSet, size_at, state_at, key_at, size_in, state_in, entry_key, raster_bytes}
 use Rattle.font_set.specs.Growth.{keys_now}
-use Rattle.font_set.specs.Stored.{entry_of, entries_of, state_of, IsStored, AreStored, HaveWanted}
+use Rattle.font_set.specs.Stored.{entry_of, entries_of, IsStored, AreStored, HaveWanted}
 use Rattle.font_set.specs.declared.want.Want.{Want}
 use Rattle.font_set.specs.declared.font.Font.{Font}
 

@@ -1,13 +1,12 @@
 -- What is counted in one set is counted in another, where each of its fonts has one of its own there.
-use Rattle.std.proofs.Common.{◌≡◌, ◌≢◌, ◌≤◌, ◌<◌, ◌+◌, ◌-◌, ◌^◌, ℕ, zero, suc, arith, List, [], ◌∷◌, length, Option, Some, None, Bool, true, false, refl, sym, ap, subst, ◌∙◌, nat_eq, nat_lt}
+use Rattle.std.proofs.Common.{◌≡◌, ◌≤◌, ◌<◌, ◌+◌, ℕ, zero, suc, arith, List, [], ◌∷◌, length, Option, Some, None, Bool, true, false, refl, sym, ap, subst, ◌∙◌, nat_eq, nat_lt}
 use Rattle.std.specs.Prelude.{slice_get, if◌then◌else◌}
-use Rattle.std.specs.List.{sum_by}
 use Rattle.std.specs.Cmp.{unsigned_Decides}
 use Rattle.std.proofs.lemmas.Bool.Decides.{nat_tests}
 use Rattle.std.proofs.lemmas.List.Sums.{sum_by-cons}
 use Rattle.font_set.specs.Key.{Key}
 use Rattle.font_set.specs.Fonts.{State, Entry, FontSet, place_of, key_at, state_in, state_at, IsLoaded, raster_bytes, raster_bytes_in}
-use Rattle.font_set.specs.Alike.{HasTwin, HaveTwins}
+use Rattle.font_set.specs.Alike.{HaveTwins}
 use Rattle.font_set.proofs.Alike.{key_is}
 use Rattle.font_set.proofs.Ids.{id_below, one_key}
 

@@ -1,5 +1,5 @@
 -- What a fault of one character says of the page, and what a fault in the midst of a run says of the whole run.
-use Rattle.std.proofs.Common.{◌≡◌, ◌<◌, ◌⊎◌, inl, inr, ℕ, ℤ, pos, Option, Some, None, refl, sym, ap, subst, ◌∙◌}
+use Rattle.std.proofs.Common.{◌≡◌, ◌<◌, inl, inr, ℕ, ℤ, pos, Option, Some, None, refl, sym, ap, subst, ◌∙◌}
 use Rattle.dv_base.specs.Shelf.{Contents, Told, Keeps}
 use Rattle.dvi_doc.specs.declared.font.FontKey.{FontKey}
 use Rattle.pk_raster.specs.Font.Known.{Nothing, Large}
@@ -8,11 +8,11 @@ use Rattle.font_set.specs.Fonts.{FontSet, key_at, state_at, packet_at, IsLoaded,
 use Rattle.font_set.specs.Programs.{Named, Program, program_at, key_of_first}
 use Rattle.font_set.specs.Views.{key_of}
 use Rattle.font_set.specs.Locals.{FirstAnswer}
-use Rattle.font_set.specs.FontFaults.{NotKnown, NotLoaded}
+use Rattle.font_set.specs.FontFaults.{NotLoaded}
 use Rattle.font_set.specs.LoadFaults.{InSome, SetsIn, HasNoWidth, look_at, MustKnow, MustLoad, FontFaultIs, LoadFaultIs}
 use Rattle.font_set.specs.Growth.{Extends}
 use Rattle.font_set.specs.Gains.{Gains, GainsFor}
-use Rattle.font_set.specs.Search.{program_or, or_empty, WithPacket, BeginsIn, NoBegin, IsKeyOf, FirstNotKnown, OpenFault, IsCharFault, MeetFault}
+use Rattle.font_set.specs.Search.{program_or, or_empty, BeginsIn, IsKeyOf, FirstNotKnown, OpenFault, MeetFault}
 use Rattle.font_set.specs.declared.fault.FontFault.{FontFault}
 use Rattle.font_set.specs.declared.fault.FontFault.TheVariants as font
 use Rattle.font_set.specs.declared.fault.LoadFault.{LoadFault}

@@ -5,7 +5,7 @@ use Rattle.dvi_ops.specs.Command.{Command}
 use Rattle.dvi_ops.specs.Command.Command.{Push, Pop}
 use Rattle.dvi_ops.specs.Placed.{Placed}
 use Rattle.font_set.specs.Tree.{Tree, Bracket, Levels, bracket, level, levels, whole_tree, tree_of, commands_of}
-use Rattle.font_set.specs.Tree.Tree.{End, Then, Group}
+use Rattle.font_set.specs.Tree.Tree.{End, Group}
 use Rattle.font_set.specs.Tree.Bracket.{Opens, Closes, Neither}
 
 abbrev at : ℕ → Command → Placed

@@ -1,5 +1,5 @@
 -- The command at a place, and what it does with fonts.
-use Rattle.std.proofs.Common.{◌≡◌, ◌≤◌, ◌<◌, ◌+◌, ◌-◌, ℕ, zero, suc, ℤ, pos, List, [], ◌∷◌, ◌++◌, length, drop, slice_range, Option, Some, None, refl, sym, ap, subst, ◌∙◌, arith, length-append, length-drop}
+use Rattle.std.proofs.Common.{◌≡◌, ◌≤◌, ◌<◌, ◌+◌, ◌-◌, ℕ, ℤ, List, [], ◌∷◌, ◌++◌, length, drop, slice_range, refl, sym, ap, subst, ◌∙◌, arith, length-append, length-drop}
 use Rattle.std.proofs.lemmas.List.{drop_at}
 use Rattle.std.proofs.lemmas.List.Folds.{drop_split}
 use Rattle.dvi_ops.specs.Command.{Command}
@@ -7,14 +7,11 @@ use Rattle.dvi_ops.specs.Command.Command.{Set, Put, Fnt}
 use Rattle.dvi_ops.specs.Placed.{Placed, Lexes}
 use Rattle.dvi_ops.specs.Spelling.{Spell}
 use Rattle.dvi_ops.specs.Laws.{OneSpelling}
-use Rattle.font_set.specs.Key.{IsKey}
 use Rattle.font_set.specs.Fonts.{FontSet}
-use Rattle.font_set.specs.Programs.{Named, Scope, Program, HasNumber, key_in}
-use Rattle.font_set.specs.Views.{key_of}
-use Rattle.font_set.specs.Search.{IsTurnFault, IsSelectable, Next, Tells, program_of, bytes_of, first_of, spot_at, fonts_of}
+use Rattle.font_set.specs.Programs.{Named, Scope, HasNumber}
+use Rattle.font_set.specs.Search.{IsTurnFault, IsSelectable, Next, Tells, program_of, bytes_of, first_of, fonts_of}
 use Rattle.font_set.specs.Found.{PageBytes, IsPlaced, Reads}
 use Rattle.font_set.specs.Asking.{IsAsked, DoesAsked, AskedFault}
-use Rattle.font_set.specs.declared.agenda.Home.{Home}
 use Rattle.font_set.specs.declared.agenda.Place.{Place}
 use Rattle.font_set.specs.declared.turn.Asked.{Asked}
 use Rattle.font_set.specs.declared.turn.Asked.TheVariants as asked

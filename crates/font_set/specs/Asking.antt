@@ -1,6 +1,5 @@
 -- What a command asks of the fonts of its frame.
-use Rattle.std.specs.Prelude.{◌≡◌, ℕ, ℤ, List, Option, Some}
-use Rattle.dv_base.specs.declared.font_id.Spot.{Spot}
+use Rattle.std.specs.Prelude.{◌≡◌, ℕ, ℤ, List, Some}
 use Rattle.dvi_ops.specs.Command.{Command}
 use Rattle.dvi_ops.specs.Command.Command.{Set, Put, Fnt}
 use Rattle.dvi_doc.specs.declared.font.FontKey.{FontKey}

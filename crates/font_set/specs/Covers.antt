@@ -1,13 +1,12 @@
 -- When a set of fonts covers frames.
-use Rattle.std.specs.Prelude.{◌≡◌, ◌≢◌, ◌<◌, ℕ, List, Option, Some, None}
-use Rattle.tfm_widths.specs.Widths.{Table, width_in}
-use Rattle.vf_packets.specs.Font.{VirtualFont, packet_of}
+use Rattle.std.specs.Prelude.{◌≡◌, ◌<◌, ℕ, List, Option, Some, None}
+use Rattle.tfm_widths.specs.Widths.{width_in}
+use Rattle.vf_packets.specs.Font.{packet_of}
 use Rattle.pk_raster.specs.Font.{Font}
-use Rattle.font_set.specs.Key.{Key}
-use Rattle.font_set.specs.Fonts.{State, Entry, FontSet, place_of, state_at, bitmap_by}
-use Rattle.font_set.specs.Acts.{Act, Every, IsReached}
+use Rattle.font_set.specs.Fonts.{State, FontSet, place_of, state_at, bitmap_by}
+use Rattle.font_set.specs.Acts.{Every, IsReached}
 use Rattle.font_set.specs.Acts.Act.{Selects, Runs, Wrong}
-use Rattle.font_set.specs.Frames.{Char, FontAct, acts_of, body}
+use Rattle.font_set.specs.Frames.{Char, FontAct, body}
 
 abbrev pub IsThere : {A : Type 0} → Option A → Type 0
 IsThere None = ⊥

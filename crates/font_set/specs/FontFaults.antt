@@ -1,5 +1,5 @@
 -- Why a font is not known, or not loaded.
-use Rattle.std.specs.Prelude.{◌≡◌, ◌≢◌, ◌⊎◌, ◌+◌, ◌-◌, ◌^◌, ℕ, List, ◌∷◌, ◌++◌, length, Option, Some, None}
+use Rattle.std.specs.Prelude.{◌≡◌, ◌≢◌, ◌⊎◌, ◌+◌, ◌-◌, ◌^◌, ℕ, List, ◌∷◌, ◌++◌, length, Some, None}
 use Rattle.std.specs.List.{Contains}
 use Rattle.dv_base.specs.Causes.{Rose}
 use Rattle.dv_base.specs.FileName.{text_of}

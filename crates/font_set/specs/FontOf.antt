@@ -1,5 +1,5 @@
 -- What the files of a shelf tell of a font.
-use Rattle.std.specs.Prelude.{◌≡◌, ◌≤◌, ℕ, zero, suc, ◌+◌, ◌-◌, ◌*◌, ◌/◌, Bool, true, false, List, [], ◌∷◌, ◌++◌, length, Option, Some, None, codes, decimal, unsigned_abs, nat_lt, if◌then◌else◌}
+use Rattle.std.specs.Prelude.{◌≡◌, ◌≤◌, ℕ, zero, suc, ◌+◌, ◌-◌, ◌*◌, ◌/◌, List, [], ◌∷◌, ◌++◌, length, Option, Some, None, codes, decimal, unsigned_abs, nat_lt, if◌then◌else◌}
 use Rattle.dv_base.specs.Shelf.{Contents, WhereHeld}
 use Rattle.dv_base.specs.declared.units.Units.{Units}
 use Rattle.tfm_widths.specs.Widths.{Table, IsTfm}
@@ -8,7 +8,7 @@ use Rattle.vf_packets.specs.File.{IsVf}
 use Rattle.pk_raster.specs.Font.{Font}
 use Rattle.pk_raster.specs.File.{IsPk}
 use Rattle.font_set.specs.Key.{Key}
-use Rattle.font_set.specs.Fonts.{State, Entry, FontSet, IsLoaded}
+use Rattle.font_set.specs.Fonts.{State, Entry, IsLoaded}
 use Rattle.font_set.specs.declared.want.Want.{Want}
 use Rattle.font_set.specs.declared.want.Want.TheVariants as wants
 

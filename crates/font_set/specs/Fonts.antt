@@ -1,5 +1,5 @@
 -- A set of fonts. A font is known by its key, and loaded once its files are read.
-use Rattle.std.specs.Prelude.{◌≡◌, ◌≢◌, ℕ, ℤ, pos, ◌/◌, ◌⊎◌, List, [], ◌∷◌, ◌++◌, map, Option, Some, None, position, slice_get}
+use Rattle.std.specs.Prelude.{◌≢◌, ℕ, ℤ, pos, ◌/◌, ◌⊎◌, List, [], ◌∷◌, ◌++◌, Option, Some, None, position, slice_get}
 use Rattle.std.specs.List.{sum_by}
 use Rattle.dv_base.specs.declared.units.Units.{Units}
 use Rattle.dv_base.specs.Scale.{scaled}

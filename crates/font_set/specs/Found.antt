@@ -3,9 +3,8 @@ use Rattle.std.specs.Prelude.{◌≡◌, ◌≤◌, ◌<◌, ◌+◌, ◌-◌, �
 use Rattle.dvi_ops.specs.Placed.{Placed, Lexes}
 use Rattle.dvi_doc.specs.declared.font.FontKey.{FontKey}
 use Rattle.font_set.specs.Key.{Key, same_key}
-use Rattle.font_set.specs.Fonts.{State, FontSet, place_of, state_at, IsLoaded}
-use Rattle.font_set.specs.Programs.{Scope, Program, key_of_first}
-use Rattle.font_set.specs.Acts.{Act}
+use Rattle.font_set.specs.Fonts.{FontSet, place_of, state_at, IsLoaded}
+use Rattle.font_set.specs.Programs.{Program, key_of_first}
 use Rattle.font_set.specs.Acts.Act.{Runs}
 use Rattle.font_set.specs.Frames.{Char, FontAct, acts_from}
 use Rattle.font_set.specs.Covers.{IsGood, IsShown, IsSet}

@@ -1,5 +1,5 @@
 -- What a set of fonts gains: the fonts that became known, and those that were loaded.
-use Rattle.std.specs.Prelude.{◌≡◌, ◌<◌, ◌⊎◌, ℕ, List, length, Option, Some}
+use Rattle.std.specs.Prelude.{◌≡◌, ◌<◌, ◌⊎◌, ℕ, length, Option, Some}
 use Rattle.dv_base.specs.Shelf.{Contents, WhereHeld}
 use Rattle.font_set.specs.Key.{Key}
 use Rattle.font_set.specs.Fonts.{FontSet, place_of, key_at, state_at, IsLoaded}

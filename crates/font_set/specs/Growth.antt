@@ -1,5 +1,5 @@
 -- How a set grows: keys are made known, and fonts are loaded.
-use Rattle.std.specs.Prelude.{◌≡◌, ◌≤◌, ℕ, List, map, length, Option, Some, slice_get}
+use Rattle.std.specs.Prelude.{◌≡◌, ◌≤◌, ℕ, List, map, length, Some, slice_get}
 use Rattle.indexmap.specs.IndexSet.{insert_key}
 use Rattle.font_set.specs.Key.{Key, same_key}
 use Rattle.font_set.specs.Fonts.{Entry, FontSet, place_of, state_at, IsLoaded}

@@ -1,11 +1,11 @@
 -- What follows from the definitions alone.
-use Rattle.std.specs.Prelude.{◌≡◌, ◌<◌, ℕ, ℤ, pos, List, Option, Some, fold}
+use Rattle.std.specs.Prelude.{◌≡◌, ℕ, List, Some, fold}
 use Rattle.indexmap.specs.IndexSet.{insert_key}
 use Rattle.font_set.specs.Key.{Key, same_key}
 use Rattle.font_set.specs.Fonts.{Entry, FontSet, place_of}
 use Rattle.font_set.specs.Programs.{Program}
 use Rattle.font_set.specs.Frames.{FontAct, acts_of}
-use Rattle.font_set.specs.Covers.{Covers, IsSet}
+use Rattle.font_set.specs.Covers.{Covers}
 use Rattle.font_set.specs.Growth.{Extends, keys_now}
 use Rattle.font_set.specs.Search.{InOrder}
 use Rattle.font_set.specs.Expand.{Expanded, expand, keys_of}

@@ -1,21 +1,16 @@
 -- Why the fonts of a page are refused, by the set that the call leaves.
-use Rattle.std.specs.Prelude.{◌≡◌, ◌≢◌, ◌≤◌, ◌<◌, ◌⊎◌, ℕ, ℤ, pos, List, [], ◌∷◌, ◌++◌, length, Option, Some, None}
-use Rattle.dv_base.specs.FileName.{text_of}
+use Rattle.std.specs.Prelude.{◌≡◌, ◌<◌, ◌⊎◌, ℕ, ℤ, pos, List, [], ◌∷◌, ◌++◌, Option, Some, None}
 use Rattle.dv_base.specs.Shelf.{Told}
 use Rattle.dv_base.specs.declared.font_id.Spot.{Spot}
 use Rattle.dv_base.specs.declared.font_id.Spot.TheVariants as spot
-use Rattle.dv_base.specs.Scale.{scaled}
 use Rattle.dvi_ops.specs.Command.{Command}
 use Rattle.dvi_ops.specs.Command.Command.{Set, Put, Fnt}
 use Rattle.dvi_ops.specs.Placed.{Placed}
-use Rattle.tfm_widths.specs.Widths.{width_in}
-use Rattle.vf_packets.specs.Font.{VirtualFont, LocalFont, packet_of}
 use Rattle.pk_raster.specs.Font.{Font, Known, glyph_at}
 use Rattle.pk_raster.specs.Font.Known.{Nothing, Large}
 use Rattle.font_set.specs.Key.{Key}
-use Rattle.font_set.specs.LocalKey.{local_design, local_key}
-use Rattle.font_set.specs.Fonts.{State, FontSet, place_of, key_at, state_at, size_at, width_at, packet_at, IsLoaded, IsVirtual}
-use Rattle.font_set.specs.Programs.{Named, Scope, Program, HasNumber, key_in, program_at, key_of_first, id_of}
+use Rattle.font_set.specs.Fonts.{State, FontSet, place_of, key_at, state_at, width_at, packet_at, IsLoaded, IsVirtual}
+use Rattle.font_set.specs.Programs.{Scope, Program, HasNumber, key_in, program_at, key_of_first, id_of}
 use Rattle.font_set.specs.Locals.{BadNumber, BadFirst}
 use Rattle.font_set.specs.FontFaults.{IsFull, NotLoaded}
 use Rattle.font_set.specs.Acts.{IsReached}

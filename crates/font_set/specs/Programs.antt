@@ -1,15 +1,15 @@
 -- Commands with what their font numbers name.
-use Rattle.std.specs.Prelude.{◌≡◌, ◌⊎◌, ℕ, ℤ, pos, List, [], ◌∷◌, map, Option, Some, None, if◌then◌else◌}
+use Rattle.std.specs.Prelude.{◌≡◌, ◌⊎◌, ℕ, ℤ, List, [], ◌∷◌, map, Option, Some, None, if◌then◌else◌}
 use Rattle.std.specs.Ordering.{int_eq}
 use Rattle.dv_base.specs.declared.units.Units.{Units}
 use Rattle.dvi_ops.specs.Command.{Definition}
 use Rattle.dvi_ops.specs.Placed.{Placed}
 use Rattle.dvi_ops.specs.Reading.{commands_in}
 use Rattle.vf_packets.specs.Font.{LocalFont, VirtualFont, packet_of}
-use Rattle.std.specs.Prelude.{unsigned_abs, slice_get}
+use Rattle.std.specs.Prelude.{unsigned_abs}
 use Rattle.font_set.specs.Key.{Key}
 use Rattle.font_set.specs.LocalKey.{local_key}
-use Rattle.font_set.specs.Fonts.{State, Entry, FontSet, place_of, size_at, state_at}
+use Rattle.font_set.specs.Fonts.{State, FontSet, place_of, size_at, state_at}
 
 -- A font number and the key of its font, which is none where the font's sizes are not as they should be.
 pub record Named : Type 0 where

@@ -1,5 +1,5 @@
 -- The search for the fonts of a page: frames as they stand in bytes.
-use Rattle.std.specs.Prelude.{◌≡◌, ◌≢◌, ◌<◌, ◌≤◌, ◌⊎◌, ℕ, zero, suc, ◌+◌, ℤ, pos, Bool, true, false, List, [], ◌∷◌, ◌++◌, map, length, drop, reverse, Option, Some, None, slice_get, slice_range, nat_eq, fold, if◌then◌else◌}
+use Rattle.std.specs.Prelude.{◌≡◌, ◌<◌, ◌⊎◌, ℕ, ◌+◌, ℤ, pos, List, [], ◌∷◌, length, drop, Option, Some, None, slice_get, slice_range, nat_eq, fold, if◌then◌else◌}
 use Rattle.dv_base.specs.Shelf.{Told}
 use Rattle.dv_base.specs.declared.font_id.Spot.{Spot}
 use Rattle.dv_base.specs.declared.font_id.Spot.TheVariants as spot
@@ -8,17 +8,16 @@ use Rattle.dvi_ops.specs.Command.Command.{Set, Put, Fnt}
 use Rattle.dvi_ops.specs.Placed.{Placed, Lexes}
 use Rattle.dvi_doc.specs.declared.font.FontKey.{FontKey}
 use Rattle.font_set.specs.Key.{Key, IsKey, same_key, blank_key}
-use Rattle.font_set.specs.Fonts.{State, Entry, FontSet, place_of, key_at, state_at, size_at, packet_at, width_at, IsLoaded, IsVirtual}
+use Rattle.font_set.specs.Fonts.{FontSet, place_of, key_at, state_at, packet_at, IsLoaded, IsVirtual}
 use Rattle.dvi_ops.specs.Reading.{commands_in}
 use Rattle.font_set.specs.Programs.{Named, Scope, Program, HasNumber, key_in, key_of_first, page_program, program_at, locals_at}
 use Rattle.indexmap.specs.IndexSet.{insert_key}
 use Rattle.dvi_doc.specs.View.{Outline, ReadDoc}
-use Rattle.font_set.specs.Growth.{Extends, Learnt, Loaded, keys_now}
-use Rattle.font_set.specs.Locals.{FirstAnswer, BadNumber, BadFirst}
+use Rattle.font_set.specs.Growth.{Learnt, keys_now}
+use Rattle.font_set.specs.Locals.{BadNumber, BadFirst}
 use Rattle.font_set.specs.FontFaults.{IsFull, NotKnown, NotLoaded}
-use Rattle.font_set.specs.Acts.{Act, Inside}
+use Rattle.font_set.specs.Acts.{Inside}
 use Rattle.font_set.specs.Frames.{Char, FontAct, acts_of, body}
-use Rattle.font_set.specs.Covers.{IsShown}
 use Rattle.font_set.specs.Views.{key_of}
 use Rattle.font_set.specs.LoadFaults.{IsCharCommand, HasNoWidth, look_at, look_by}
 use Rattle.pk_raster.specs.Font.{Font}

@@ -1,6 +1,5 @@
 -- What a set of fonts tells of characters: the width of each, and the packet where the font is virtual.
 use Rattle.std.specs.Prelude.{ℕ, ℤ, Option, Some, None}
-use Rattle.font_set.specs.Key.{Key}
 use Rattle.font_set.specs.Fonts.{State, FontSet, place_of, state_at, width_at}
 use Rattle.font_set.specs.Programs.{Program, program_at}
 use Rattle.font_set.specs.Expand.{Shape, Shapes}

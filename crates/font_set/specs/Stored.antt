@@ -1,5 +1,5 @@
 -- How a set is stored, and what holds of its fonts.
-use Rattle.std.specs.Prelude.{◌≡◌, ◌<◌, ◌≤◌, ◌<ℤ◌, ◌≤ℤ◌, ◌^◌, ℕ, ℤ, pos, List, [], ◌∷◌, map, length, Option, None, Some, unsigned_abs}
+use Rattle.std.specs.Prelude.{◌≡◌, ◌<◌, ◌≤◌, ◌<ℤ◌, ◌≤ℤ◌, ◌^◌, ℕ, ℤ, pos, List, map, length, Option, None, Some, unsigned_abs}
 use Rattle.std.specs.List.{AllByRecursion}
 use Rattle.dv_base.specs.declared.units.Units.{Units}
 use Rattle.dv_base.specs.FontName.{IsFontName}
@@ -7,8 +7,8 @@ use Rattle.dv_base.specs.UnitPixels.{IsUsable}
 use Rattle.dvi_doc.specs.declared.font.FontKey.{FontKey}
 use Rattle.tfm_widths.specs.Widths.{Table, width_in}
 use Rattle.vf_packets.specs.Font.{LocalFont, VirtualFont, Apart, packet_of}
-use Rattle.font_set.specs.Key.{Key, IsKey}
-use Rattle.font_set.specs.Fonts.{State, Entry, FontSet, packet_in, raster_bytes}
+use Rattle.font_set.specs.Key.{IsKey}
+use Rattle.font_set.specs.Fonts.{State, Entry, raster_bytes}
 use Rattle.font_set.specs.Views.{key_of}
 use Rattle.pk_raster.specs.Font as pk_font
 use Rattle.pk_raster.specs.Font.{Bitmap, glyph_at}

@@ -1,4 +1,3 @@
-use Rattle.std.proofs.Common.{◌<◌, ℕ, slice_index}
 use Rattle.font_set.proofs.Sizes.{tfm_fine, byte_below}
 use Rattle.font_set.proofs.files.read_widths.Goals as goal
 

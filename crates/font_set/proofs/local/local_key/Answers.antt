@@ -1,4 +1,4 @@
-use Rattle.std.proofs.Common.{rules, ◌≡◌, ◌&&◌, Bool, true, false, ℤ, to_z, of_z, w64, refl, sym, ◌∙◌}
+use Rattle.std.proofs.Common.{rules, ◌≡◌, ◌&&◌, true, false, to_z, of_z, w64, refl, sym, ◌∙◌}
 use Rattle.dv_base.specs.Scale.{scaled}
 use Rattle.vf_packets.specs.LocalViews.{local_view}
 use Rattle.font_set.specs.LocalKey.{local_design, is_size}

@@ -1,5 +1,4 @@
-use Rattle.std.proofs.Common.{refl, ap, sym, subst, ◌∙◌}
-use Rattle.font_set.specs.Covers.{IsThere}
+use Rattle.std.proofs.Common.{refl, ap, sym, ◌∙◌}
 use Rattle.font_set.specs.Stored.{state_of}
 use Rattle.font_set.proofs.Steps.{on_ok, if_err}
 use Rattle.font_set.proofs.Showing.{shown_real, shown_virtual, no_packet, unloaded, look_fault, there}

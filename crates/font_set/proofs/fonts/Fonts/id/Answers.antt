@@ -1,5 +1,4 @@
-use Rattle.std.proofs.Common.{rules, ◌≡◌, Option, Some, None, sym, ap, ◌∙◌}
-use Rattle.dv_base.specs.declared.font_id.FontId.{FontId}
+use Rattle.std.proofs.Common.{rules, ◌≡◌, Some, None, sym, ap, ◌∙◌}
 use Rattle.font_set.specs.Fonts.{FontSet, place_of}
 use Rattle.font_set.specs.Views.{key_of}
 use Rattle.font_set.proofs.Ids.{id_below}

@@ -1,4 +1,4 @@
-use Rattle.std.proofs.Common.{◌≡◌, ◌<◌, ◌≤◌, ◌+◌, ◌^◌, ℕ, List, length, slice_get, arith, sym, ap, subst, ◌∙◌}
+use Rattle.std.proofs.Common.{◌≡◌, ◌<◌, ◌≤◌, ◌+◌, ◌^◌, ℕ, List, length, slice_get, sym, ap, subst, ◌∙◌}
 use Rattle.font_set.specs.Files.{with_state}
 use Rattle.font_set.specs.Fonts.{State, Entry, FontSet, state_at, state_in, raster_bytes, raster_bytes_in}
 use Rattle.font_set.specs.Stored.{AreStored, HasWanted, HaveWanted, entries_of, state_of}

@@ -1,4 +1,4 @@
-use Rattle.std.proofs.Common.{rules, sym}
+use Rattle.std.proofs.Common.{sym}
 use Rattle.font_set.specs.Stored.{entry_of}
 use Rattle.font_set.proofs.Stores.{key_is, stands}
 use Rattle.font_set.proofs.fonts.Fonts.key.Goals as goal

@@ -1,11 +1,11 @@
-use Rattle.std.proofs.Common.{◌≡◌, ℕ, ℤ, to_z, of_z, w64, List, Option, Some, None, sym, ap, subst, ◌∙◌}
+use Rattle.std.proofs.Common.{◌≡◌, ℕ, ℤ, to_z, of_z, w64, List, sym, ap, subst, ◌∙◌}
 use Rattle.std.proofs.lemmas.Int.{to_z-of_z}
 use Rattle.std.proofs.lemmas.Result.{err_from_is_err_and}
 use Rattle.std.specs.List.{Contains}
 use Rattle.vf_packets.specs.Font.{Has, LocalFont}
 use Rattle.font_set.specs.Locals.{IsBadSize}
 use Rattle.vf_packets.specs.LocalViews.{local_view}
-use Rattle.font_set.specs.Fonts.{State, FontSet, vf_in, state_at, size_at}
+use Rattle.font_set.specs.Fonts.{State, FontSet, vf_in, size_at}
 use Rattle.font_set.specs.LocalKey.{local_key}
 use Rattle.font_set.specs.Programs.{Named, HasNumber}
 use Rattle.font_set.specs.Stored.{state_of}

@@ -1,4 +1,4 @@
-use Rattle.std.proofs.Common.{◌≡◌, ◌<◌, ◌∷◌, ◌∙◌, ap, sym, refl, arith, ℕ, List, None}
+use Rattle.std.proofs.Common.{◌≡◌, ◌∷◌, ◌∙◌, ap, sym, refl, ℕ, List, None}
 use Rattle.font_set.specs.declared.agenda.Home.TheVariants as home
 use Rattle.font_set.specs.declared.agenda.Place.{Place}
 use Rattle.font_set.specs.declared.turn.Turn.{Turn}

@@ -1,4 +1,3 @@
-use Rattle.std.proofs.Common.{sym}
 use Rattle.font_set.proofs.Looks.{mismatch_is}
 use Rattle.font_set.proofs.fonts.Fonts.mismatch.Goals as goal
 

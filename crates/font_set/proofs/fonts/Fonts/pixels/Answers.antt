@@ -1,4 +1,4 @@
-use Rattle.std.proofs.Common.{rules, ◌≡◌, FitsSigned, w64, to_z, of_z, arith, ℤ, Option, Some, None, ap, ◌∙◌}
+use Rattle.std.proofs.Common.{rules, ◌≡◌, FitsSigned, w64, to_z, of_z, arith, ℤ, Some, None, ap, ◌∙◌}
 use Rattle.std.proofs.lemmas.Int.{to_z-of_z, fits_signed_from_abs}
 use Rattle.dv_base.specs.Rounding.{Fraction, rounded}
 use Rattle.dv_base.specs.UnitPixels.{pixels_of_one}

@@ -1,4 +1,4 @@
-use Rattle.std.proofs.Common.{rules, ◌≡◌, ◌≢◌, ◌-◌, ℕ, List, sym, ap, subst, ◌∙◌}
+use Rattle.std.proofs.Common.{rules, ◌≡◌, ◌≢◌, ◌-◌, ℕ, List, ap, subst, ◌∙◌}
 use Rattle.pk_raster.specs.Faults.{PkFaultIs, NoFont}
 use Rattle.pk_raster.specs.declared.fault.PkFault.TheVariants.{OutOfMemory, Space}
 use Rattle.font_set.specs.Fonts.{FontSet, raster_bytes}

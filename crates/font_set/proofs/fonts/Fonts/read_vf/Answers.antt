@@ -1,4 +1,4 @@
-use Rattle.std.proofs.Common.{rules, ◌≡◌, ◌≢◌, inl, inr, refl, subst}
+use Rattle.std.proofs.Common.{rules, ◌≢◌, inl, inr, refl, subst}
 use Rattle.std.proofs.lemmas.Result.{err_from_is_err_and}
 use Rattle.dv_base.specs.FileName.{text_of}
 use Rattle.vf_packets.specs.declared.fault.VfFault.TheVariants.{OutOfMemory}

@@ -1,6 +1,5 @@
-use Rattle.std.proofs.Common.{◌≡◌, ℤ, arith, sym, ap, subst, ◌∙◌}
+use Rattle.std.proofs.Common.{ℤ, arith, sym, ap, subst, ◌∙◌}
 use Rattle.std.specs.Prelude.{unsigned_abs}
-use Rattle.dv_base.specs.declared.units.Units.{Units}
 use Rattle.font_set.specs.Fonts.{FontSet}
 use Rattle.font_set.specs.FontOf.{resolution}
 use Rattle.font_set.specs.Key.{IsUnits}

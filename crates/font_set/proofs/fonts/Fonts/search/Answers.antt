@@ -1,4 +1,4 @@
-use Rattle.std.proofs.Common.{◌≡◌, ◌∷◌, refl, sym, subst}
+use Rattle.std.proofs.Common.{◌∷◌, sym, subst}
 use Rattle.font_set.specs.Found.{Todo, FoundAt}
 use Rattle.std.proofs.lemmas.Result.{err_from_is_err_and}
 use Rattle.font_set.specs.LoadFaults.{MustKnow, MustLoad}

@@ -1,11 +1,10 @@
-use Rattle.std.proofs.Common.{◌≡◌, ℕ, ℤ, Some, None, sym, ap, subst, ◌∙◌, ◌<◌, length, pos, arith, OnOk, IfErr, FitsSigned, w64, rules}
+use Rattle.std.proofs.Common.{◌≡◌, ℕ, ℤ, Some, sym, ap, subst, ◌∙◌, ◌<◌, length, arith, OnOk, IfErr, FitsSigned, w64, rules}
 use Rattle.std.proofs.lemmas.Int.{to_z-of_z}
 use Rattle.dv_base.specs.declared.font_id.Spot.{Spot}
 use Rattle.font_set.specs.LoadFaults.{InFrame, SetsNowhere}
 use Rattle.font_set.specs.Found.{WasMet, Meets}
 use Rattle.font_set.specs.Gains.{Gains}
 use Rattle.font_set.specs.Search.{MeetFault, BeginsIn}
-use Rattle.font_set.specs.declared.fault.LoadFault.{LoadFault}
 use Rattle.font_set.proofs.Telling.{met_gains}
 use Rattle.font_set.proofs.Steps.{placed, font_below, skip_step, meet_step, nowhere_fault, set_here, meet_fault, on_ok, if_err}
 use Rattle.font_set.proofs.fonts.Fonts.set.Goals as goal

@@ -1,4 +1,3 @@
-use Rattle.std.proofs.Common.{◌∷◌}
 use Rattle.font_set.proofs.Steps.{placed, on_ok}
 use Rattle.font_set.proofs.Skimming.{found_on, step_on, left_step}
 use Rattle.font_set.proofs.fonts.Fonts.step.Goals as goal
