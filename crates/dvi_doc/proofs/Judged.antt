@@ -1,40 +1,47 @@
 -- A file's parts compared with one another: a document, or a fault.
-use Rattle.std.proofs.Common.{Option, None, MatchOption, IfSome, ◌≡◌, ◌≤◌, ◌<◌, ◌+◌, ◌-◌, ◌%◌, ℕ, zero, suc, ℤ, pos, negsuc, List, [], ◌∷◌, ◌++◌, length, map, take, drop, refl, sym, ap, subst, ◌∙◌, arith, slice_range, get_or, Some, length-append}
+use Rattle.std.proofs.Common.{◌≡◌, ◌≤◌, ◌<◌, ◌+◌, ◌-◌, ◌%◌, ℕ, zero, suc, ℤ, pos, negsuc, List, [], ◌∷◌, ◌++◌, length, map, take, drop, refl, sym, ap, subst, ◌∙◌, arith, slice_range, get_or, Some, length-append}
 use Rattle.std.specs.Prelude.{slice_get}
-use Rattle.std.specs.List.{All, Contains}
+use Rattle.std.specs.List.{Contains}
 use Rattle.std.proofs.lemmas.List.{length-map, append_assoc, drop_at, length-drop}
 use Rattle.std.proofs.Math.Seq.{drop-drop, take-append-add}
 use Rattle.dvi_ops.specs.Command.Command.{Bop, Eop, Pre, Post, PostPost}
 use Rattle.dvi_doc.proofs.Lexing.{lex_split}
 use Rattle.dvi_doc.specs.declared.page.Page.{Page}
+use Rattle.dvi_doc.specs.declared.font_def.FontDef.{FontDef}
 use Rattle.dvi_ops.specs.Command.{Definition, Preamble, Postamble}
 use Rattle.dvi_ops.specs.Laws.{OneSpelling}
 use Rattle.dvi_ops.specs.View.{head_view, tail_view}
 use Rattle.dvi_ops.specs.Placed.{Placed, Lexes}
 use Rattle.dvi_doc.specs.Document.{placed, PageOf, Item, File, Document, between, pages_of, document_of}
 use Rattle.dvi_doc.specs.Document.Item.{Filler, Paged}
-use Rattle.dvi_doc.specs.Grammar.{Defines, AllInner, AllItems, first_place, IsFile, IsDoc, AreFonts, AllAmong, SameUnits, DefinesTwice, IsNamed, IsSized}
+use Rattle.dvi_doc.specs.Grammar.{AllInner, AllItems, first_place, IsFile, IsDoc, AreFonts, AllAmong, SameUnits, DefinesTwice, IsNamed, IsSized}
 use Rattle.dvi_doc.specs.View.{Outline, outline, page_view, IsRead}
 use Rattle.dvi_doc.specs.Faults.{FaultIn, FontFault, SomeFont}
 use Rattle.dvi_doc.specs.PartFaults.{Differs, TailFault}
+use Rattle.dvi_doc.specs.Standing.{definitions_at, fonts_in}
 use Rattle.dvi_doc.specs.Steps.{FoundParts}
 use Rattle.dvi_doc.specs.declared.parts.Parts.{Parts}
 use Rattle.dvi_doc.specs.declared.fault.DocFault.{DocFault}
 use Rattle.dvi_doc.specs.declared.fault.DocFault.TheVariants as fault
 
-pub font_fault : (bytes : List ℕ) (p : Parts) (e : DocFault) → FoundParts bytes p → FontFault p.fonts e → FaultIn bytes e
+pub font_fault : (bytes : List ℕ) (p : Parts) (e : DocFault) → FoundParts bytes p → FontFault (fonts_in p.fonts) e → FaultIn bytes e
 font_fault bytes p (fault.FontTwice k) f h = (f.0, f.1, subst (λ (ds : List Definition). DefinesTwice ds k) f.2.4 h)
 font_fault bytes p (fault.BadName k) f h = (f.0, f.1, subst (λ (ds : List Definition). SomeFont ds k IsNamed) f.2.4 h)
 font_fault bytes p (fault.BadSize k) f h = (f.0, f.1, subst (λ (ds : List Definition). SomeFont ds k IsSized) f.2.4 h)
 font_fault bytes p fault.OutOfMemory f h = tt
 font_fault bytes p _ f h = absurd h
 
-pub differs_fault : (bytes : List ℕ) (p : Parts) (fonts : List Definition) (e : DocFault) → FoundParts bytes p → fonts ≡ p.fonts → Differs fonts p.body.earlier.items e → FaultIn bytes e
+-- the same places in the same bytes
+pub same_bytes : (bytes : List ℕ) (earlier : List FontDef) (P : List Definition → Type 0) (others : List FontDef) (them : List ℕ) → others ≡ earlier → them ≡ bytes → P (definitions_at them others) → P (definitions_at bytes earlier)
+same_bytes bytes earlier P others them same here h =
+    subst (λ (fs : List FontDef). P (definitions_at bytes fs)) same (subst (λ (bs : List ℕ). P (definitions_at bs others)) here h)
+
+pub differs_fault : (bytes : List ℕ) (p : Parts) (fonts : List Definition) (e : DocFault) → FoundParts bytes p → fonts ≡ fonts_in p.fonts → Differs fonts (definitions_at bytes p.body.earlier.items) e → FaultIn bytes e
 differs_fault bytes p fonts (fault.FontDiffers k) f w h = (
   f.0,
   f.1,
   subst (λ (ds : List Definition). SomeFont ds k (λ d. Contains (document_of f.0).fonts d)) f.2.2
-      (subst (λ (fs : List Definition). SomeFont p.body.earlier.items k (λ d. Contains fs d)) (w ∙ f.2.4) h),
+      (subst (λ (fs : List Definition). SomeFont (definitions_at bytes p.body.earlier.items) k (λ d. Contains fs d)) (w ∙ f.2.4) h),
 )
 differs_fault bytes p fonts _ f w h = absurd h
 
@@ -49,14 +56,14 @@ tail_fault bytes p pages fault.PostDiffers f w h =
     (f.0, f.1, subst (λ (t : Postamble). SameUnits (document_of f.0).head t → ⊥) f.2.3 (subst (λ (d : Preamble). SameUnits d (tail_view p.body.tail) → ⊥) f.2.0 h))
 tail_fault bytes p pages _ f w h = absurd h
 
-pub doc_found : (bytes : List ℕ) (p : Parts) (fonts : List Definition) (pages : ℕ) → FoundParts bytes p → fonts ≡ p.fonts → AreFonts fonts → AllAmong fonts p.body.earlier.items → pages ≡ length p.body.pages.items → (pages % 65536 ≡ p.body.tail.pages) × SameUnits (head_view p.head) (tail_view p.body.tail) →
+pub doc_found : (bytes : List ℕ) (p : Parts) (fonts : List Definition) (pages : ℕ) → FoundParts bytes p → fonts ≡ fonts_in p.fonts → AreFonts fonts → AllAmong fonts (definitions_at bytes p.body.earlier.items) → pages ≡ length p.body.pages.items → (pages % 65536 ≡ p.body.tail.pages) × SameUnits (head_view p.head) (tail_view p.body.tail) →
     IsRead (record { bytes = bytes; head = head_view p.head; pages = map page_view p.body.pages.items; tail = tail_view p.body.tail; fonts = fonts })
 doc_found bytes p fonts pages f w good among n tail =
     let doc = document_of f.0 in
     let is : fonts ≡ doc.fonts = w ∙ f.2.4 in
     let same_units : SameUnits doc.head doc.tail = subst (λ (t : Postamble). SameUnits doc.head t) f.2.3 (subst (λ (d : Preamble). SameUnits d (tail_view p.body.tail)) f.2.0 tail.1) in
     let count : length doc.pages % 65536 ≡ doc.tail.pages = ap (λ (m : ℕ). m % 65536) (sym (n ∙ pages_count bytes p f)) ∙ tail.0 ∙ ap (λ (t : Postamble). t.pages) f.2.3 in
-    let all : AllAmong doc.fonts doc.before = subst (λ (ds : List Definition). AllAmong doc.fonts ds) f.2.2 (subst (λ (fs : List Definition). AllAmong fs p.body.earlier.items) is among) in
+    let all : AllAmong doc.fonts doc.before = subst (λ (ds : List Definition). AllAmong doc.fonts ds) f.2.2 (subst (λ (fs : List Definition). AllAmong fs (definitions_at bytes p.body.earlier.items)) is among) in
     (doc, (f.0, f.1, refl, (subst (λ (ds : List Definition). AreFonts ds) is good, all, count, same_units)), (f.2.0, f.2.1, f.2.3, is))
 
 -- ---- the bytes of a page
@@ -169,8 +176,3 @@ page_there one bytes doc pages k x d e h g =
 
 pub body_bytes : (pages : List Page) (k : ℕ) (x : Page) → k < length pages → x ≡ get_or pages k x → slice_get (map page_view pages) k ≡ Some (page_view x)
 body_bytes pages k x h g = map_get pages k x h g
-
--- a font that is found is as all are
-pub found_good : (P : Definition → Type 0) (o : Option Definition) (ds : List Definition) (k : ℤ) → MatchOption o (Defines ds k → ⊥) (λ font. Contains ds font × (font.k ≡ k)) → All P ds → IfSome o P
-found_good P None ds k h all = tt
-found_good P (Some font) ds k h all = subst P h.0.2 (all h.0.0 font h.0.1)

@@ -1,9 +1,9 @@
 pub mod Document
 pub mod Grammar
 pub mod Order
-pub mod View
 pub mod Faults
 pub mod PartFaults
 pub mod Standing
+pub mod View
 pub mod Steps
 pub mod Laws

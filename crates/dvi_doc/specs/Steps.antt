@@ -1,5 +1,6 @@
 -- What the steps of reading a document find: the pages, the postamble and both together. No public clause cites this module.
 use Rattle.std.specs.Prelude.{◌≡◌, ◌≤◌, ◌+◌, ℕ, zero, suc, ℤ, pos, negsuc, Option, Some, None, List, [], ◌++◌, map, slice_range}
+use Rattle.std.specs.List.{All}
 use Rattle.dvi_ops.specs.Command.{Command, Definition}
 use Rattle.dvi_ops.specs.Command.Command.{Eop, Post, PostPost}
 use Rattle.dvi_ops.specs.View.{head_view, tail_view}
@@ -8,7 +9,7 @@ use Rattle.dvi_doc.specs.Document.{Item, File, Document, between, last_bop, page
 use Rattle.dvi_doc.specs.Grammar.{IsInner, AllInner, AllItems, IsFile}
 use Rattle.dvi_doc.specs.Order.{Reaches, reading, SpelledTo}
 use Rattle.dvi_doc.specs.Order.Part.{Between, Inside, Behind}
-use Rattle.dvi_doc.specs.Standing.{HoldsEnding}
+use Rattle.dvi_doc.specs.Standing.{HoldsEnding, Stands, definitions_at, fonts_in}
 use Rattle.dvi_doc.specs.View.{outline, page_view}
 use Rattle.dvi_doc.specs.Faults.{TrailerAt}
 use Rattle.dvi_doc.specs.declared.page.Page.{Page}
@@ -46,7 +47,8 @@ HasItems bytes start at pages earlier last =
 -- From start on stand pages, and then post.
 abbrev pub FoundBody : List ℕ → ℕ → ℕ → Body → Type 0
 FoundBody bytes start ends b =
-    (start ≤ b.post) × (b.next ≤ ends) × SpelledTo bytes b.post b.next (Post (tail_view b.tail)) × HasItems bytes start b.post b.pages.items b.earlier.items b.tail.back
+    (start ≤ b.post) × (b.next ≤ ends) × SpelledTo bytes b.post b.next (Post (tail_view b.tail)) × HasItems bytes start b.post b.pages.items (definitions_at bytes b.earlier.items) b.tail.back
+    × All (Stands bytes) b.earlier.items
     × Reaches bytes b.next (reading Behind b.tail.back b.post)
 
 -- From start to ends stand fillers with these definitions.
@@ -56,11 +58,12 @@ FoundEnding bytes start ends defs =
     × ((last : ℤ) (post : ℕ) → Reaches bytes start (reading Behind last post) → Reaches bytes ends (reading Behind last post))
 
 -- the document's parts as they were found
-abbrev pub PartsOf : Parts → Document → Type 0
-PartsOf p doc =
-    (head_view p.head ≡ doc.head) × (map page_view p.body.pages.items ≡ map outline doc.pages) × (p.body.earlier.items ≡ doc.before)
-    × (tail_view p.body.tail ≡ doc.tail) × (p.fonts ≡ doc.fonts)
+abbrev pub PartsOf : List ℕ → Parts → Document → Type 0
+PartsOf bytes p doc =
+    (head_view p.head ≡ doc.head) × (map page_view p.body.pages.items ≡ map outline doc.pages) × (definitions_at bytes p.body.earlier.items ≡ doc.before)
+    × (tail_view p.body.tail ≡ doc.tail) × (fonts_in p.fonts ≡ doc.fonts)
 
 -- the bytes are a file's, with these parts
 abbrev pub FoundParts : List ℕ → Parts → Type 0
-FoundParts bytes p = (f : File) × IsFile bytes f × PartsOf p (document_of f)
+FoundParts bytes p =
+    (f : File) × IsFile bytes f × PartsOf bytes p (document_of f) × All (Stands bytes) p.body.earlier.items × (p.fonts.bytes ≡ bytes)

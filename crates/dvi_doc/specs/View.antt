@@ -4,8 +4,10 @@ use Rattle.dv_base.specs.FileName.{text_of}
 use Rattle.dvi_ops.specs.Command.{Definition, Preamble, Postamble}
 use Rattle.dvi_doc.specs.Document.{PageOf, Document}
 use Rattle.dvi_doc.specs.Grammar.{IsDoc}
+use Rattle.dvi_doc.specs.Standing.{definition_at}
 use Rattle.dvi_doc.specs.declared.page.Page.{Page}
 use Rattle.dvi_doc.specs.declared.font.FontKey.{FontKey}
+use Rattle.dvi_doc.specs.declared.font_def.FontDef.{FontDef}
 
 -- a page by its places, without its commands
 pub record Outline : Type 0 where
@@ -31,6 +33,10 @@ pub record ReadDoc : Type 0 where
   pub pages : List Outline
   pub tail : Postamble
   pub fonts : List Definition
+
+-- what a font definition of the document says
+abbrev pub says : ReadDoc → FontDef → Definition
+says doc font = definition_at doc.bytes font.at
 
 -- what was found is the document's
 abbrev pub Shows : Document → ReadDoc → Type 0

@@ -1,21 +1,21 @@
 //! A document that was read.
 ghost use Rattle.std.specs.Prelude.{◌≡◌, ◌≤◌, ◌<◌, ◌^◌, ℕ, List, length, map, slice_range, slice_get, IfOk, IfErr, Some, IfSome, MatchOption};
 ghost use Rattle.std.specs.List.{All, Contains};
-ghost use Rattle.dvi_ops.specs.View.{head_view, tail_view};
+ghost use Rattle.dvi_ops.specs.View.{def_view, head_view, tail_view};
 ghost use Rattle.dvi_doc.specs.Document.{Document, PageOf};
 ghost use Rattle.dvi_ops.specs.Placed.{Lexes};
 ghost use Rattle.dvi_doc.specs.Grammar.{IsDoc, NoDoc, AllInner, Defines, IsNamed, IsSized};
-ghost use Rattle.dvi_doc.specs.View.{IsRead, Outline, outline, page_view};
+ghost use Rattle.dvi_doc.specs.Standing.{Stands};
+ghost use Rattle.dvi_doc.specs.View.{IsRead, Outline, outline, page_view, says};
 ghost use Rattle.dvi_doc.specs.Faults.{FaultIn, NoneBut};
 
-use crate::definitions::Definitions;
 use crate::fault::DocFault;
 use crate::font_def::FontDef;
 use crate::fonts::Fonts;
 use crate::page::Page;
 use crate::parts::read_parts;
 use crate::tail::check_tail;
-use dvi_ops::{Head, Tail, one_spelling};
+use dvi_ops::{Def, Head, Tail, one_spelling};
 use std::alloc::Global;
 use std::marker::Model;
 
@@ -34,13 +34,14 @@ impl<'a> Model for Doc<'a> {
     ghost use Rattle.dvi_doc.specs.Grammar.{IsDoc};
     ghost use Rattle.dvi_doc.specs.View.{ReadDoc, Shows, page_view};
     ghost use Rattle.dvi_ops.specs.View.{head_view, tail_view};
-    ghost use Rattle.std.specs.Prelude.{◌<◌, length, map};
+    ghost use Rattle.dvi_doc.specs.Standing.{fonts_in};
+    ghost use Rattle.std.specs.Prelude.{◌≡◌, ◌<◌, length, map};
 
     ghost Value = { ReadDoc };
 
-    ghost view = { λ d. record { bytes = d.bytes.now; head = head_view d.head; pages = map page_view d.pages.items; tail = tail_view d.tail; fonts = d.fonts } };
+    ghost view = { λ d. record { bytes = d.bytes.now; head = head_view d.head; pages = map page_view d.pages.items; tail = tail_view d.tail; fonts = fonts_in d.fonts } };
 
-    ghost invariant = { λ d. (doc : Document) × IsDoc d.bytes.now doc × Shows doc (record { bytes = d.bytes.now; head = head_view d.head; pages = map page_view d.pages.items; tail = tail_view d.tail; fonts = d.fonts }) × (length d.head.comment.now < 256) };
+    ghost invariant = { λ d. (doc : Document) × IsDoc d.bytes.now doc × Shows doc (record { bytes = d.bytes.now; head = head_view d.head; pages = map page_view d.pages.items; tail = tail_view d.tail; fonts = fonts_in d.fonts }) × (length d.head.comment.now < 256) × (d.fonts.bytes ≡ d.bytes.now) };
 }
 
 impl<'a> Doc<'a> {
@@ -103,21 +104,31 @@ impl<'a> Doc<'a> {
         &self.bytes[found.first as usize..found.eop as usize]
     }
 
-    /// The font that the postamble defines by this number; `None` exactly where it defines none.
-    pub fn font(&self, k: i64) -> Option<FontDef<'a>>
-        ensures found { MatchOption result (Defines self.now.fonts k → ⊥) (λ font. Contains self.now.fonts font × (font.k ≡ k)) }
-        ensures named { IfSome result (λ font. IsNamed font) }
-        ensures sized { IfSome result (λ font. IsSized font) }
+    /// The definition of the font that the postamble defines by this number; `None` exactly where it defines none.
+    pub fn font(&self, k: i64) -> Option<&FontDef>
+        ensures found { MatchOption result (Defines self.now.fonts k → ⊥) (λ font. Contains self.now.fonts (says self.now font.now) × ((says self.now font.now).k ≡ k)) }
+        ensures stands { IfSome result (λ font. Stands self.now.bytes font.now) }
+        ensures named { IfSome result (λ font. IsNamed (says self.now font.now)) }
+        ensures sized { IfSome result (λ font. IsSized (says self.now font.now)) }
     {
         self.fonts.get(k)
     }
 
-    /// The fonts in the order in which the postamble defines them.
-    pub fn fonts(&self) -> Definitions<'a>
-        ensures fonts { result ≡ self.now.fonts }
+    /// The definitions of the fonts, in the postamble's order.
+    pub fn fonts(&self) -> &[FontDef]
+        ensures fonts { map (says self.now) result.now ≡ self.now.fonts }
+        ensures stands { All (Stands self.now.bytes) result.now }
         ensures named { All IsNamed self.now.fonts }
         ensures sized { All IsSized self.now.fonts }
     {
         self.fonts.all()
+    }
+
+    /// What a font definition of the document says.
+    pub fn definition(&self, font: &FontDef) -> Def<'a>
+        requires { Stands self.now.bytes font.now }
+        ensures { def_view result ≡ says self.now font.now }
+    {
+        font.read(self.bytes)
     }
 }

@@ -1,66 +1,30 @@
-//! A font definition of a document, in its bytes.
-ghost use Rattle.std.specs.Prelude.{◌≡◌, ℕ};
-ghost use Rattle.dvi_ops.specs.Command.{Definition};
-ghost use Rattle.dvi_ops.specs.Command.Command.{FntDef};
+//! A font definition of a document, by its place.
+ghost use Rattle.std.specs.Prelude.{◌≡◌};
 ghost use Rattle.dvi_ops.specs.View.{def_view};
-ghost use Rattle.dvi_doc.specs.Order.{SpelledTo};
+ghost use Rattle.dvi_doc.specs.Standing.{Stands, definition_at};
 
-use dvi_ops::{Def, definition_end, definition_of, number_of, one_spelling};
-use std::marker::Model;
+use dvi_ops::{Def, definition_end, definition_of, one_spelling};
 
-/// A font definition of a document.
-// A document may define a hundred thousand fonts, and most of what they say is asked for once or never: so a definition is its bytes
-// in the file, and read when it is asked for.
-#[derive(Drop)]
-pub struct FontDef<'a> {
-    bytes: &'a [u8],
+/// A font definition of a document: its place, in bytes from the start of the file. [`Doc::definition`](crate::Doc::definition) tells what it
+/// says.
+// A document may define a hundred thousand fonts, and most of what they say is asked for once or never: so of a definition its place is
+// kept, and it is read when it is asked for.
+#[derive(Clone, Copy, Debug, PartialEq, Eq)]
+pub struct FontDef {
+    pub at: u32,
 }
 
-impl<'a> Model for FontDef<'a> {
-    ghost use Rattle.dvi_ops.specs.Command.{Definition};
-    ghost use Rattle.dvi_ops.specs.Defined.{defined, IsDefinition};
-
-    ghost Value = { Definition };
-
-    ghost view = { λ f. defined f.bytes.now };
-
-    ghost invariant = { λ f. IsDefinition f.bytes.now };
-}
-
-impl<'a> FontDef<'a> {
-    /// The definition that stands in a file from one place to another.
-    pub(crate) fn between(bytes: &'a [u8], at: usize, end: usize) -> FontDef<'a>
-        requires { (d : Definition) × SpelledTo bytes.now at end (FntDef d) }
-        ensures { (d : Definition) → SpelledTo bytes.now at end (FntDef d) → result ≡ d }
-    {
-        FontDef {
-            bytes: &bytes[at..end],
-        }
-    }
-
-    /// The definition that stands in a file at a place.
-    pub(crate) fn at(bytes: &'a [u8], place: usize) -> FontDef<'a>
-        requires { (d : Definition) × (end : ℕ) × SpelledTo bytes.now place end (FntDef d) }
-        ensures { (d : Definition) (end : ℕ) → SpelledTo bytes.now place end (FntDef d) → result ≡ d }
+impl FontDef {
+    /// What the definition says that stands at this place of a file.
+    pub(crate) fn read<'a>(&self, bytes: &'a [u8]) -> Def<'a>
+        requires { Stands bytes.now self.now }
+        ensures { def_view result ≡ definition_at bytes.now self.now.at }
     {
         one_spelling();
-        match definition_end(bytes, place) {
-            Some(end) => FontDef::between(bytes, place, end),
+        let at = self.at as usize;
+        match definition_end(bytes, at) {
+            Some(end) => definition_of(&bytes[at..end]),
             None => unreachable!(),
         }
-    }
-
-    /// The number by which the document selects the font.
-    pub fn k(&self) -> i32
-        ensures { result ≡ self.now.k }
-    {
-        number_of(self.bytes)
-    }
-
-    /// All that the definition says.
-    pub fn def(&self) -> Def<'a>
-        ensures { def_view result ≡ self.now }
-    {
-        definition_of(self.bytes)
     }
 }

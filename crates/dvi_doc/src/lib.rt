@@ -12,7 +12,6 @@
 //! ```
 #![tactic(auto)]
 
-mod definitions;
 mod doc;
 mod fault;
 mod font;
@@ -29,7 +28,6 @@ mod step;
 mod tail;
 mod trailer;
 
-pub use definitions::Definitions;
 pub use doc::Doc;
 pub use fault::DocFault;
 pub use font::FontKey;

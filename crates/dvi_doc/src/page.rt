@@ -1,10 +1,12 @@
 //! The commands of one page, up to its eop.
-ghost use Rattle.std.specs.Prelude.{◌≡◌, ◌≤◌, ◌<◌, ◌+◌, ◌^◌, ℤ, length, IfOk, IfErr, MatchBool};
+ghost use Rattle.std.specs.Prelude.{◌≡◌, ◌≤◌, ◌<◌, ◌+◌, ◌^◌, ℤ, length, IfOk, IfErr, OnOk, MatchBool};
+ghost use Rattle.std.specs.List.{All};
 ghost use Rattle.dvi_ops.specs.View.{view};
 ghost use Rattle.dvi_doc.specs.Grammar.{IsInner};
 ghost use Rattle.dvi_doc.specs.Order.{Reaches, reading};
 ghost use Rattle.dvi_doc.specs.Order.Part.{Inside};
 ghost use Rattle.dvi_doc.specs.Faults.{FaultIn};
+ghost use Rattle.dvi_doc.specs.Standing.{Stands, definitions_at};
 ghost use Rattle.dvi_doc.specs.Steps.{EndsAt, FoundPage};
 
 use crate::fault::DocFault;
@@ -36,17 +38,18 @@ fn is_inner(cmd: &Cmd<'_>) -> bool
 }
 
 /// The places of the eop and behind it of the page whose first command is at `start`. Its definitions go behind `earlier`.
-pub fn read_page<'a>(
-    bytes: &'a [u8],
+pub fn read_page(
+    bytes: &[u8],
     start: usize,
     ends: usize,
-    earlier: &mut Vec<FontDef<'a>>,
+    earlier: &mut Vec<FontDef>,
 ) -> Result<(usize, usize), DocFault>
     requires small { length bytes.now ≤ 2 ^ 26 }
     requires trailer { EndsAt bytes.now ends }
     requires inside { start ≤ ends }
     requires reached { (last : ℤ) × Reaches bytes.now start (reading Inside last 0) }
-    ensures found { IfOk result (λ r. FoundPage bytes.now start r.0 r.1 ends earlier.old.items earlier.new.items) }
+    ensures found { IfOk result (λ r. FoundPage bytes.now start r.0 r.1 ends (definitions_at bytes.now earlier.old.items) (definitions_at bytes.now earlier.new.items)) }
+    ensures stands { OnOk result (All (Stands bytes.now) earlier.old.items → All (Stands bytes.now) earlier.new.items) }
     ensures fault { IfErr result (FaultIn bytes.now) }
 {
     let mut at = pass_commands(bytes, start, ends);
@@ -55,7 +58,7 @@ pub fn read_page<'a>(
         match cmd {
             Cmd::Eop => return Ok((at, end)),
             Cmd::FntDef(_) => {
-                earlier.push(FontDef::between(bytes, at, end))?;
+                earlier.push(FontDef { at: at as u32 })?;
                 at = pass_commands(bytes, end, ends);
             }
             other => {

@@ -15,11 +15,11 @@ use std::alloc::Global;
 
 /// What stands between the preamble and the postamble's definitions.
 #[derive(Drop)]
-pub struct Body<'a> {
+pub struct Body {
     /// The pages, in file order.
     pub pages: Vec<Page>,
     /// The font definitions between and inside them.
-    pub earlier: Vec<FontDef<'a>>,
+    pub earlier: Vec<FontDef>,
     /// The place of `post`.
     pub post: usize,
     /// What `post` says.
@@ -46,12 +46,7 @@ fn check_back(at: usize, back: i32, last: Option<usize>) -> Result<(), DocFault>
 }
 
 /// The pages from `start` on, and the postamble's first command behind them.
-pub fn read_pages<'a>(
-    alloc: Global,
-    bytes: &'a [u8],
-    start: usize,
-    ends: usize,
-) -> Result<Body<'a>, DocFault>
+pub fn read_pages(alloc: Global, bytes: &[u8], start: usize, ends: usize) -> Result<Body, DocFault>
     requires small { length bytes.now ≤ 2 ^ 26 }
     requires trailer { EndsAt bytes.now ends }
     requires inside { start ≤ ends }
@@ -68,7 +63,7 @@ pub fn read_pages<'a>(
         match cmd {
             Cmd::Nop => at = end,
             Cmd::FntDef(_) => {
-                earlier.push(FontDef::between(bytes, at, end))?;
+                earlier.push(FontDef { at: at as u32 })?;
                 at = end;
             }
             Cmd::Bop { counts, back } => {

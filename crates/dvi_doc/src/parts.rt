@@ -18,7 +18,7 @@ pub struct Parts<'a> {
     /// What `pre` says.
     pub head: Head<'a>,
     /// Pages and `post`.
-    pub body: Body<'a>,
+    pub body: Body,
     /// The definitions behind `post`.
     pub fonts: Found<'a>,
 }

@@ -4,14 +4,13 @@ ghost use Rattle.dvi_ops.specs.Command.{Command, Definition};
 ghost use Rattle.dvi_ops.specs.Command.Command.{FntDef};
 ghost use Rattle.dvi_doc.specs.Document.{put_definition};
 ghost use Rattle.dvi_doc.specs.Grammar.{IsInner};
-ghost use Rattle.dvi_ops.specs.View.{view};
+ghost use Rattle.dvi_ops.specs.View.{def_view, view};
 ghost use Rattle.dvi_doc.specs.Order.{Reading, Reaches, SpelledTo};
 ghost use Rattle.dvi_doc.specs.Faults.{FaultIn};
 ghost use Rattle.dvi_doc.specs.Steps.{EndsAt, PassedTo};
 
 use crate::fault::DocFault;
-use crate::font_def::FontDef;
-use dvi_ops::{Cmd, OpFault, definition_end, next_cmd, one_spelling, pass};
+use dvi_ops::{Cmd, Def, OpFault, definition_end, definition_of, next_cmd, one_spelling, pass};
 
 /// The command at a place that reading came to, and the place behind it, which isn't past the trailer's `post_post`.
 pub fn read_command(bytes: &[u8], at: usize, ends: usize) -> Result<(Cmd<'_>, usize), DocFault>
@@ -69,15 +68,15 @@ pub fn pass_commands(bytes: &[u8], start: usize, ends: usize) -> usize
 /// The font definition at a place, and the place behind it; `None` exactly where none stands there that ends before the trailer's
 /// `post_post`. [`read_command`] tells what else stands there.
 #[inline(always)]
-pub fn pass_definition(bytes: &[u8], at: usize, ends: usize) -> Option<(FontDef<'_>, usize)>
+pub fn pass_definition(bytes: &[u8], at: usize, ends: usize) -> Option<(Def<'_>, usize)>
     requires before { at < ends }
     requires inside { ends ≤ length bytes.now }
-    ensures { MatchOption result ((d : Definition) (end : ℕ) → SpelledTo bytes.now at end (FntDef d) → end ≤ ends → ⊥) (λ r. SpelledTo bytes.now at r.1 (FntDef r.0) × (r.1 ≤ ends)) }
+    ensures { MatchOption result ((d : Definition) (end : ℕ) → SpelledTo bytes.now at end (FntDef d) → end ≤ ends → ⊥) (λ r. SpelledTo bytes.now at r.1 (FntDef (def_view r.0)) × (r.1 ≤ ends)) }
 {
     one_spelling();
     let end = definition_end(bytes, at)?;
     if end <= ends {
-        Some((FontDef::between(bytes, at, end), end))
+        Some((definition_of(&bytes[at..end]), end))
     } else {
         None
     }

@@ -69,11 +69,8 @@ fn shown(alloc: Global, bytes: &[u8]) -> Result<String, Fail>
     match Doc::read(alloc, bytes) {
         Ok(doc) => {
             let mut text = format!(in alloc; "fonts")?;
-            let mut fonts = doc.fonts();
-            for _ in 0..3 {
-                if let Some(font) = fonts.next() {
-                    text.push_str(&format!(in alloc; " {}", font.k())?)?;
-                }
+            for font in doc.fonts() {
+                text.push_str(&format!(in alloc; " {}", doc.definition(font).k)?)?;
             }
             text.push_str(":")?;
             for page in doc.pages() {
@@ -189,10 +186,11 @@ fn parts_of_a_document(rt: HostRuntime) -> Result<(), Fail> {
     let Some(font) = doc.font(0) else {
         return Err("font 0".into());
     };
-    let key = FontKey::of(&font.def());
+    let def = doc.definition(font);
+    let key = FontKey::of(&def);
     assert_eq!(rt; key.name.as_str(), "cmr10");
     assert_eq!(rt;
-        (font.k(), key.checksum, key.size, key.design),
+        (def.k, key.checksum, key.size, key.design),
         (0, 0, 655_360, 655_360)
     );
     Ok(())

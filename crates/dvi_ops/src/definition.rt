@@ -8,7 +8,6 @@ ghost use Rattle.dvi_ops.specs.View.{def_view};
 
 use crate::cmd::Def;
 use crate::length::{fixed_len, text_len};
-use crate::number::code;
 use crate::read::read_def;
 
 /// The place behind the font definition at a place; `None` exactly where none stands there that is whole.
@@ -44,13 +43,4 @@ pub fn definition_of(bytes: &[u8]) -> Def<'_>
     ensures { def_view result ≡ defined bytes.now }
 {
     read_def(bytes[0] as usize - 242, &bytes[1..])
-}
-
-/// The number by which the definition that bytes spell selects its font.
-#[tactic(auto, unfolding(crate::specs::Spelling::definition))]
-pub fn number_of(bytes: &[u8]) -> i32
-    requires { IsDefinition bytes.now }
-    ensures { result ≡ (defined bytes.now).k }
-{
-    code(&bytes[1..], bytes[0] as usize - 242)
 }

@@ -26,7 +26,7 @@ mod put;
 mod read;
 
 pub use cmd::{Cmd, Def, Head, OpFault, Tail};
-pub use definition::{definition_end, definition_of, number_of};
+pub use definition::{definition_end, definition_of};
 pub use following::command_at;
 pub use laws::{one_reading, one_spelling, shortest_spelling, spelled_has_room};
 pub use number_index::{NumberIndex, Numbers};

@@ -214,13 +214,13 @@ pages_start s d ps st set state first now kept text h g =
     (record { behind = st; ends = refl; stands = h; gathered = gathered_is first now kept text (text ++ []) (sym (append-nil text)) g })
 
 -- what was read is the document's, so its head is
-pub head_is : OneDocument → (r : ReadDoc) (d : Document) (mag : ℤ) (fs : List Definition) → IsRead r → IsDoc r.bytes d → fs ≡ r.fonts → head_text r.head mag (length r.pages) ++ font_lines fs ≡ head_text d.head mag (length d.pages) ++ font_lines d.fonts
-head_is one r d mag fs (e, is, shows) h same =
+pub head_is : OneDocument → (r : ReadDoc) (d : Document) (mag : ℤ) → IsRead r → IsDoc r.bytes d → head_text r.head mag (length r.pages) ++ font_lines r.fonts ≡ head_text d.head mag (length d.pages) ++ font_lines d.fonts
+head_is one r d mag (e, is, shows) h =
     let doc : e ≡ d = one r.bytes e d is h in
     let pages : length r.pages ≡ length e.pages = ap length shows.1 ∙ length-map e.pages outline in
-    ap (λ (x : Preamble). head_text x mag (length r.pages) ++ font_lines fs) shows.0
-    ∙ ap (λ (n : ℕ). head_text e.head mag n ++ font_lines fs) pages
-    ∙ ap (λ (xs : List Definition). head_text e.head mag (length e.pages) ++ font_lines xs) (same ∙ shows.3)
+    ap (λ (x : Preamble). head_text x mag (length r.pages) ++ font_lines r.fonts) shows.0
+    ∙ ap (λ (n : ℕ). head_text e.head mag n ++ font_lines r.fonts) pages
+    ∙ ap (λ (xs : List Definition). head_text e.head mag (length e.pages) ++ font_lines xs) shows.3
     ∙ ap (λ (x : Document). head_text x.head mag (length x.pages) ++ font_lines x.fonts) doc
 
 module _ (s : Setting) (d : Bool) (doc : Document) (mag : ℤ) (places : List ℕ) where

@@ -1,13 +1,17 @@
 -- Texts of lists, item by item.
-use Rattle.std.proofs.Common.{◌≡◌, ◌<◌, ◌+◌, ◌++◌, ℕ, ℤ, List, [], ◌∷◌, length, take, drop, get_or, refl, sym, ap, ◌∙◌, append_assoc}
+use Rattle.std.proofs.Common.{◌≡◌, ◌≤◌, ◌<◌, ◌+◌, ◌++◌, ℕ, ℤ, List, [], ◌∷◌, length, map, take, drop, get_or, refl, sym, ap, ◌∙◌, arith, append_assoc}
 use Rattle.std.specs.Fmt.{signed_decimal}
-use Rattle.std.proofs.lemmas.List.{append-nil, take-append-drop, take_more}
+use Rattle.std.proofs.lemmas.List.{append-nil, get_or-map, length-map, take-append-drop, take_all, take_more}
 use Rattle.dvi_ops.specs.Command.{Definition}
 use Rattle.dvitype_list.specs.Texts.{escaped, escape_byte, font_line, font_lines, more_counts}
 
 pub escaped_join : (xs ys : List ℕ) → escaped (xs ++ ys) ≡ escaped xs ++ escaped ys
 escaped_join [] ys = refl
 escaped_join (x ∷ xs) ys = ap (λ t. escape_byte x ++ t) (escaped_join xs ys) ∙ sym (append_assoc (escape_byte x) (escaped xs) (escaped ys))
+
+pub fonts_join : (xs ys : List Definition) → font_lines (xs ++ ys) ≡ font_lines xs ++ font_lines ys
+fonts_join [] ys = refl
+fonts_join (x ∷ xs) ys = ap (λ t. font_line x ++ t) (fonts_join xs ys) ∙ sym (append_assoc (font_line x) (font_lines xs) (font_lines ys))
 
 -- one byte more
 pub escaped_more : (bs : List ℕ) (i b : ℕ) (next : List ℕ) → next ≡ take i bs ++ b ∷ [] → escaped next ≡ escaped (take i bs) ++ escape_byte b
@@ -41,12 +45,24 @@ escaped_step bs i l = sym (escaped_more bs i (get_or bs i 0) (take (i + 1) bs) (
 pub escaped_rest : (bs : List ℕ) (i : ℕ) → i < length bs → (escaped (take i bs) ++ escape_byte (get_or bs i 0)) ++ escaped (drop (i + 1) bs) ≡ escaped bs
 escaped_rest bs i l = ap (λ (x : List ℕ). x ++ escaped (drop (i + 1) bs)) (escaped_step bs i l) ∙ escaped_front bs (i + 1)
 
--- one font more, and none
-pub fonts_next : (done : List ℕ) (d : Definition) (ds all : List Definition) (whole : List ℕ) → all ≡ d ∷ ds → done ++ font_lines all ≡ whole → (done ++ font_line d) ++ font_lines ds ≡ whole
-fonts_next done d ds all whole is e = append_assoc done (font_line d) (font_lines ds) ∙ ap (λ (x : List Definition). done ++ font_lines x) (sym is) ∙ e
+-- one font more: what its place among the places of the fonts says
+pub fonts_step : {X : Type 0} (says : X → Definition) (xs : List X) (ds : List Definition) (i : ℕ) (e : X) (d : Definition) → map says xs ≡ ds → i < length xs → d ≡ says (get_or xs i e) → font_lines (take i ds) ++ font_line d ≡ font_lines (take (i + 1) ds)
+fonts_step says xs ds i e d same l said =
+    let inside : i < length ds = omega (arith, l, length-map xs says, ap length same) in
+    let there : d ≡ get_or ds i d = said ∙ sym (get_or-map says xs i e d l) ∙ ap (λ (y : List Definition). get_or y i d) same in
+    ap (λ (y : List ℕ). font_lines (take i ds) ++ y) (sym (append-nil (font_line d)))
+    ∙ sym (fonts_join (take i ds) (d ∷ []))
+    ∙ ap font_lines (ap (λ (y : Definition). take i ds ++ y ∷ []) there ∙ sym (take_more ds i d inside))
 
-pub fonts_last : (done : List ℕ) (all : List Definition) (whole : List ℕ) → all ≡ [] → done ++ font_lines all ≡ whole → done ≡ whole
-fonts_last done all whole is e = sym (append-nil done) ∙ ap (λ (x : List Definition). done ++ font_lines x) (sym is) ∙ e
+pub fonts_rest : {X : Type 0} (says : X → Definition) (xs : List X) (ds : List Definition) (i : ℕ) (e : X) (d : Definition) → map says xs ≡ ds → i < length xs → d ≡ says (get_or xs i e) → (font_lines (take i ds) ++ font_line d) ++ font_lines (drop (i + 1) ds) ≡ font_lines ds
+fonts_rest says xs ds i e d same l said =
+    ap (λ (y : List ℕ). y ++ font_lines (drop (i + 1) ds)) (fonts_step says xs ds i e d same l said)
+    ∙ sym (fonts_join (take (i + 1) ds) (drop (i + 1) ds))
+    ∙ ap font_lines (take-append-drop (i + 1) ds)
+
+-- behind the last place all fonts are written
+pub fonts_last : {X : Type 0} (says : X → Definition) (xs : List X) (ds : List Definition) (i : ℕ) → map says xs ≡ ds → length xs ≤ i → take i ds ≡ ds
+fonts_last says xs ds i same far = take_all i ds (omega (arith, far, length-map xs says, ap length same))
 
 pub more_whole : (text a b r w : List ℕ) → (a ++ b) ++ r ≡ w → ((text ++ a) ++ b) ++ r ≡ text ++ w
 more_whole text a b r w e = ap (λ (x : List ℕ). x ++ r) (append_assoc text a b) ∙ append_assoc text (a ++ b) r ∙ ap (λ (x : List ℕ). text ++ x) e

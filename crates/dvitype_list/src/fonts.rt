@@ -44,7 +44,7 @@ pub fn select(doc: &Doc<'_>, fonts: &mut Fonts, k: i64, at: u32) -> Result<Selec
     ensures gains { (held : Option Contents) → Gains held fonts.old fonts.new Any Any }
 {
     match doc.font(k) {
-        Some(font) => learn(fonts, &font.def()),
+        Some(font) => learn(fonts, &doc.definition(font)),
         None => Err(ListFault::Load(LoadFault::UndefinedFont(Spot::Page { at }))),
     }
 }

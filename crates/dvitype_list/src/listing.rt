@@ -28,7 +28,7 @@ use crate::state::State;
 use crate::turn::turn;
 use dv_base::{Conv, Line, Shelf, Tray, WriteFault};
 use dv_words::ListJob;
-use dvi_doc::{Definitions, Doc, Page, one_document};
+use dvi_doc::{Doc, Page, one_document};
 use dvi_ops::{Cmd, Def, command_at};
 use font_set::Fonts;
 use positions::Pos;
@@ -344,19 +344,15 @@ fn font_line<T: Tray>(out: &mut Gatherer, tray: &mut T, font: &Def<'_>) -> Resul
     out.text(tray, line.as_slice())
 }
 
-/// Writes the lines of fonts.
-fn font_lines<T: Tray>(
-    out: &mut Gatherer,
-    tray: &mut T,
-    mut fonts: Definitions<'_>,
-) -> Result<(), WriteFault>
+/// Writes the lines of the fonts.
+fn font_lines<T: Tray>(out: &mut Gatherer, tray: &mut T, doc: &Doc<'_>) -> Result<(), WriteFault>
     requires begun { 0 < (T.seen tray.old).begun }
-    ensures ok { (first : Seen) (text : List ℕ) → Gathered first (T.seen tray.old) out.old.kept.items text → OnOk result (Gathered first (T.seen tray.new) out.new.kept.items (text ++ font_lines fonts.entry)) }
-    ensures cut { (first : Seen) (text : List ℕ) → Gathered first (T.seen tray.old) out.old.kept.items text → OnErr result (Cut first (T.seen tray.new) (text ++ font_lines fonts.entry)) }
+    ensures ok { (first : Seen) (text : List ℕ) → Gathered first (T.seen tray.old) out.old.kept.items text → OnOk result (Gathered first (T.seen tray.new) out.new.kept.items (text ++ font_lines doc.now.fonts)) }
+    ensures cut { (first : Seen) (text : List ℕ) → Gathered first (T.seen tray.old) out.old.kept.items text → OnErr result (Cut first (T.seen tray.new) (text ++ font_lines doc.now.fonts)) }
     ensures keeps { KeepsNames (T.seen tray.old) (T.seen tray.new) }
 {
-    while let Some(font) = fonts.next() {
-        font_line(out, tray, &font.def())?;
+    for font in doc.fonts() {
+        font_line(out, tray, &doc.definition(font))?;
     }
     Ok(())
 }
@@ -423,7 +419,7 @@ fn gather<S: Shelf, T: Tray>(
     if let Err(WriteFault) = head_lines(out, tray, scene.doc, mag) {
         return Err(ListFault::WriteFault);
     }
-    if let Err(WriteFault) = font_lines(out, tray, scene.doc.fonts()) {
+    if let Err(WriteFault) = font_lines(out, tray, scene.doc) {
         return Err(ListFault::WriteFault);
     }
     if let Err(fault) = pages(scene, fonts, shelf, state, out, tray, places) {

@@ -1,6 +1,6 @@
 -- The keys of a document's fonts by their numbers.
-use Rattle.std.proofs.Common.{◌≡◌, ◌<◌, inl, inr, ℕ, zero, suc, ℤ, pos, Bool, true, false, List, [], ◌∷◌, length, slice_index_or, Option, Some, None, refl, sym, ap, subst, ◌∙◌, arith}
-use Rattle.std.specs.Prelude.{unsigned_abs, MatchOption}
+use Rattle.std.proofs.Common.{◌≡◌, ◌<◌, inl, inr, ℕ, zero, suc, ℤ, pos, Bool, true, false, List, [], ◌∷◌, length, slice_index_or, Some, None, refl, sym, ap, subst, ◌∙◌, arith}
+use Rattle.std.specs.Prelude.{unsigned_abs}
 use Rattle.std.specs.Ordering.{int_eq}
 use Rattle.std.specs.List.{Contains}
 use Rattle.std.proofs.lemmas.Bool.Decides.{Decides-int_eq}
@@ -71,8 +71,3 @@ key_made d key named sized h =
 pub page_no_key : (ds : List Definition) (first : ℕ) (bytes : List ℕ) (k : ℤ) → (Defines ds k → ⊥) → KeyAnswer (page_in ds first bytes).scope.fonts k None
 unfolding page_in
 page_no_key ds first bytes k other h = none_numbered ds k other h
-
--- what is said of an answer, in both cases
-pub in_both : {X : Type 0} (o : Option X) {P R : Type 0} {Q S : X → Type 0} → (P → R) → ((x : X) → Q x → S x) → MatchOption o P Q → MatchOption o R S
-in_both None f g h = f h
-in_both (Some x) f g h = g x h

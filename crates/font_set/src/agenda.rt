@@ -5,10 +5,11 @@ ghost use Rattle.font_set.specs.Marks.{padded};
 ghost use Rattle.font_set.specs.Fonts.{place_of};
 ghost use Rattle.font_set.specs.Programs.{key_by};
 ghost use Rattle.dvi_doc.specs.Grammar.{IsNamed, IsSized};
+ghost use Rattle.dvi_ops.specs.View.{def_view};
 
 use crate::fonts::Fonts;
 use dv_base::FontId;
-use dvi_doc::FontDef;
+use dvi_ops::Def;
 use std::alloc::{AllocError, Global};
 use std::marker::Model;
 
@@ -123,10 +124,10 @@ impl Agenda {
     }
 
     /// The id of the font that the document defines by the number k; `None` exactly where that font isn't known.
-    pub fn id_of(&mut self, fonts: &Fonts, k: i64, font: &FontDef<'_>) -> Option<FontId>
-        requires named { IsNamed font.now }
-        requires sized { IsSized font.now }
-        ensures value { result ≡ place_of fonts.now.fonts (key_by font.now) }
+    pub fn id_of(&mut self, fonts: &Fonts, k: i64, font: &Def<'_>) -> Option<FontId>
+        requires named { IsNamed (def_view font.now) }
+        requires sized { IsSized (def_view font.now) }
+        ensures value { result ≡ place_of fonts.now.fonts (key_by (def_view font.now)) }
         ensures same { self.new ≡ self.old }
     {
         let hint = &mut self.hints[k.rem_euclid(16) as usize];

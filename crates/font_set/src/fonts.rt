@@ -15,7 +15,7 @@ use crate::fault::FontFault;
 use crate::font::Font;
 use crate::want::{Kind, Want};
 use dv_base::{Conv, FontId, Units};
-use dvi_doc::{FontDef, FontKey};
+use dvi_doc::FontKey;
 use dvi_ops::Def;
 use indexmap::IndexMap;
 use std::alloc::Global;
@@ -122,20 +122,19 @@ impl Fonts {
     ///
     /// The hint may be any id or none, and becomes the answer. Where it is the answer already, the key that the set has is compared with
     /// the definition, and no key is made. So a caller that selects a font again and again keeps a hint for it.
-    pub fn id_of(&self, font: &FontDef<'_>, hint: &mut Option<FontId>) -> Option<FontId>
-        requires named { IsNamed font.now }
-        requires sized { IsSized font.now }
-        ensures value { result ≡ place_of self.now.fonts (key_by font.now) }
+    pub fn id_of(&self, font: &Def<'_>, hint: &mut Option<FontId>) -> Option<FontId>
+        requires named { IsNamed (def_view font.now) }
+        requires sized { IsSized (def_view font.now) }
+        ensures value { result ≡ place_of self.now.fonts (key_by (def_view font.now)) }
         ensures given { IfSome result (λ id. id < length self.now.fonts) }
         ensures hint { hint.new ≡ result }
     {
-        let def = font.def();
         if let Some(id) = *hint {
-            if self.is_font(id, &def) {
+            if self.is_font(id, font) {
                 return Some(id);
             }
         }
-        *hint = self.id(&FontKey::of(&def));
+        *hint = self.id(&FontKey::of(font));
         *hint
     }
 

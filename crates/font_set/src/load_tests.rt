@@ -88,6 +88,7 @@ fn is_found(fonts: &Fonts, doc: &Doc<'_>, id: Option<FontId>) -> bool {
     let Some(font) = doc.font(0) else {
         return false;
     };
+    let font = doc.definition(font);
     let mut hint = FontId::new(7);
     fonts.id_of(&font, &mut hint) == id && hint == id && fonts.id_of(&font, &mut hint) == id
 }

@@ -3,7 +3,7 @@ ghost use Rattle.std.specs.Prelude.{◌≡◌, ◌<◌, ◌≤◌, ◌^◌, ◌+
 ghost use Rattle.dvi_ops.specs.Command.{Command};
 ghost use Rattle.dvi_ops.specs.Placed.{Placed, Lexes};
 ghost use Rattle.dvi_ops.specs.Spelling.{Spell};
-ghost use Rattle.dvi_ops.specs.View.{view};
+ghost use Rattle.dvi_ops.specs.View.{def_view, view};
 ghost use Rattle.dvi_doc.specs.Grammar.{IsNamed, IsSized};
 ghost use Rattle.font_set.specs.Programs.{HasNumber, key_in, key_by};
 ghost use Rattle.font_set.specs.Locals.{KeyAnswer};
@@ -15,8 +15,8 @@ use crate::agenda::{Home, Place};
 use crate::fault::{FontFault, LoadFault};
 use crate::fonts::Fonts;
 use dv_base::{FontId, Spot};
-use dvi_doc::{Doc, FontDef, FontKey};
-use dvi_ops::{Cmd, command_at, one_spelling};
+use dvi_doc::{Doc, FontKey};
+use dvi_ops::{Cmd, Def, command_at, one_spelling};
 use std::marker::Model;
 
 /// What a command asks of the fonts of its frame.
@@ -66,12 +66,13 @@ impl<'a> Model for Sheet<'a> {
 
 impl<'a> Sheet<'a> {
     /// The definition of the font that a number names in the page, where it names one.
-    pub(crate) fn definition(&self, k: i64) -> Option<FontDef<'a>>
-        ensures found { MatchOption result (HasNumber self.now.page.scope.fonts k → ⊥) (λ font. key_in self.now.page.scope.fonts k ≡ Some (key_by font)) }
-        ensures named { IfSome result (λ font. IsNamed font) }
-        ensures sized { IfSome result (λ font. IsSized font) }
+    pub(crate) fn definition(&self, k: i64) -> Option<Def<'a>>
+        ensures found { MatchOption result (HasNumber self.now.page.scope.fonts k → ⊥) (λ font. key_in self.now.page.scope.fonts k ≡ Some (key_by (def_view font))) }
+        ensures named { IfSome result (λ font. IsNamed (def_view font)) }
+        ensures sized { IfSome result (λ font. IsSized (def_view font)) }
     {
-        self.doc.font(k)
+        let font = self.doc.font(k)?;
+        Some(self.doc.definition(font))
     }
 
     /// The key that a number names in the page, where it names one.
@@ -79,7 +80,7 @@ impl<'a> Sheet<'a> {
         ensures { KeyAnswer self.now.page.scope.fonts k result }
     {
         match self.definition(k) {
-            Some(font) => Some(FontKey::of(&font.def())),
+            Some(font) => Some(FontKey::of(&font)),
             None => None,
         }
     }

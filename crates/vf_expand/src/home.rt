@@ -72,7 +72,7 @@ impl<'a> Frame<'a> {
         match self.home {
             Home::Page { doc, .. } => {
                 let font = doc.font(k)?;
-                self.fonts.id_of(&font, hint)
+                self.fonts.id_of(&doc.definition(font), hint)
             }
             Home::Packet { font, .. } => self.fonts.local(font, k),
         }

@@ -1,4 +1,5 @@
-use Rattle.std.proofs.Common.{arith, ◌≡◌, ◌∷◌, ◌++◌, [], inl, refl, sym, ap, subst, ◌∙◌, ℤ, pos, rules, FitsSigned, w32}
+use Rattle.std.proofs.Common.{arith, ◌≡◌, ◌∷◌, ◌++◌, [], inl, refl, sym, ap, subst, ◌∙◌, ℤ, List, pos, rules, FitsSigned, w32}
+use Rattle.std.specs.List.{All}
 use Rattle.std.proofs.lemmas.Int.{to_z-of_z}
 use Rattle.std.proofs.lemmas.Result.{err_from_is_err_and}
 use Rattle.std.proofs.lemmas.List.{append-nil}
@@ -11,6 +12,9 @@ use Rattle.dvi_doc.specs.Order.{SpelledTo, Reaches, reading}
 use Rattle.dvi_doc.specs.Order.Part.{Between}
 use Rattle.dvi_doc.specs.Steps.{HasItems, last_of}
 use Rattle.dvi_doc.proofs.Further.{reach_between, reach_bop, reach_post, not_outside, back_fault, bad_end}
+use Rattle.dvi_doc.specs.Standing.{Stands, definitions_at}
+use Rattle.dvi_doc.specs.declared.font_def.FontDef.{FontDef}
+use Rattle.dvi_doc.proofs.Standing.{definition_there, stands_there, more_at, more_stand}
 use Rattle.dvi_doc.proofs.Gathered.{filler_more, page_gathered}
 use Rattle.dvi_doc.proofs.pages.read_pages.Goals as goal
 
@@ -22,11 +26,13 @@ loop-at-preserved-in-Nop c =
     let at = c.loop-at.at in
     let end = c.in_ok-cmd.end in
     let last = last_of c.loop-at.last in
+    let defs = definitions_at bytes c.loop-at.earlier.items in
     let s : SpelledTo bytes at end Nop = subst (λ (x : Cmd). SpelledTo bytes at end (view x)) c.in-Nop.is f.0 in
     record {
       onward = omega (arith, i.onward, f.0.0);
       inside = f.1;
-      holds = filler_more bytes c.args.start at end Nop c.loop-at.pages.items c.loop-at.earlier.items c.loop-at.earlier.items last i.onward s tt (sym (append-nil c.loop-at.earlier.items)) i.holds;
+      holds = filler_more bytes c.args.start at end Nop c.loop-at.pages.items defs defs last i.onward s tt (sym (append-nil defs)) i.holds;
+      stands = i.stands;
       reached = reach_between bytes at end last Nop s tt i.reached;
     }
 
@@ -41,19 +47,20 @@ loop-at-preserved-in-FntDef c =
     let def = def_view c.in-FntDef.field-0 in
     let d : Command = FntDef def in
     let s : SpelledTo bytes at end d = subst (λ (x : Cmd). SpelledTo bytes at end (view x)) c.in-FntDef.is f.0 in
-    let more : c.push.new.self.items ≡ c.loop-at.earlier.items ++ put_definition d [] =
-    c.in_ok-push-in-FntDef.ensures.items ∙ ap (λ (x : Definition). c.loop-at.earlier.items ++ x ∷ []) (c.between.ensures def s) in
+    let held = c.loop-at.earlier.items in
+    let defs = definitions_at bytes held in
+    let new = definitions_at bytes c.push.new.self.items in
+    let font : FontDef = record { at = at } in
+    let pushed : c.push.new.self.items ≡ held ++ font ∷ [] = c.in_ok-push-in-FntDef.ensures.items in
+    let more : new ≡ defs ++ put_definition d [] =
+    ap (λ (fs : List FontDef). definitions_at bytes fs) pushed ∙ more_at bytes held font ∙ ap (λ (x : Definition). defs ++ x ∷ []) (definition_there bytes at end def s) in
     record {
       onward = omega (arith, i.onward, f.0.0);
       inside = f.1;
-      holds = filler_more bytes c.args.start at end d c.loop-at.pages.items c.loop-at.earlier.items c.push.new.self.items last i.onward s tt more i.holds;
+      holds = filler_more bytes c.args.start at end d c.loop-at.pages.items defs new last i.onward s tt more i.holds;
+      stands = subst (λ (fs : List FontDef). All (Stands bytes) fs) (sym pushed) (more_stand bytes held font i.stands (stands_there bytes font end def s));
       reached = reach_between bytes at end last d s tt i.reached;
     }
-
-pub between-requires : goal.between-requires
-between-requires c =
-    let s = c.in_ok-cmd.ensures.found.0 in
-    (def_view c.in-FntDef.field-0, subst (λ (x : Cmd). SpelledTo c.args.bytes.now c.loop-at.at c.in_ok-cmd.end (view x)) c.in-FntDef.is s)
 
 pub read_page-requires-clause-reached : goal.read_page-requires-clause-reached
 read_page-requires-clause-reached c =
@@ -79,7 +86,8 @@ loop-at-preserved c =
     record {
       onward = omega (arith, i.onward, f.0.0, g.0, g.2.0);
       inside = g.1;
-      holds = page_gathered bytes c.args.start at end c.in_ok-eop-in-Bop.eop c.in_ok-eop-in-Bop.next c.args.ends c.in-Bop.counts c.in-Bop.back last _ c.loop-at.pages.items c.push-in-Bop.new.self.items c.loop-at.earlier.items c.read_page.new.earlier.items i.onward s names g refl c.in_ok-push-in-Bop.ensures.items i.holds;
+      holds = page_gathered bytes c.args.start at end c.in_ok-eop-in-Bop.eop c.in_ok-eop-in-Bop.next c.args.ends c.in-Bop.counts c.in-Bop.back last _ c.loop-at.pages.items c.push-in-Bop.new.self.items (definitions_at bytes c.loop-at.earlier.items) (definitions_at bytes c.read_page.new.earlier.items) i.onward s names g refl c.in_ok-push-in-Bop.ensures.items i.holds;
+      stands = c.in_ok-eop-in-Bop.ensures.stands i.stands;
       reached = g.4 (pos at) (reach_bop bytes at end last c.in-Bop.back c.in-Bop.counts s names i.reached);
     }
 
@@ -94,10 +102,11 @@ returns-in-Post-clause-found c =
     let fits : FitsSigned w32 c.in-Post.tail.back = search rules in
     let names : c.in-Post.tail.back ≡ last = rw (to_z-of_z w32 c.in-Post.tail.back fits) at c.in_ok-check_back-in-Post.ensures.last in
     let s : SpelledTo bytes at c.in_ok-cmd.end (Post tail) = subst (λ (x : Cmd). SpelledTo bytes at c.in_ok-cmd.end (view x)) c.in-Post.is f.0 in
-    let items : HasItems bytes c.args.start at c.loop-at.pages.items c.loop-at.earlier.items c.in-Post.tail.back =
-    subst (λ (z : ℤ). HasItems bytes c.args.start at c.loop-at.pages.items c.loop-at.earlier.items z) (sym names) i.holds in
+    let defs = definitions_at bytes c.loop-at.earlier.items in
+    let items : HasItems bytes c.args.start at c.loop-at.pages.items defs c.in-Post.tail.back =
+    subst (λ (z : ℤ). HasItems bytes c.args.start at c.loop-at.pages.items defs z) (sym names) i.holds in
     let reached : Reaches bytes at (reading Between c.in-Post.tail.back 0) = subst (λ (z : ℤ). Reaches bytes at (reading Between z 0)) (sym names) i.reached in
-    (i.onward, f.1, s, items, reach_post bytes at c.in_ok-cmd.end c.in-Post.tail.back tail s refl reached)
+    (i.onward, f.1, s, items, i.stands, reach_post bytes at c.in_ok-cmd.end c.in-Post.tail.back tail s refl reached)
 
 pub returns-in_default : goal.returns-in_default
 returns-in_default c =

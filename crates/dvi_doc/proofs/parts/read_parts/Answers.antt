@@ -2,6 +2,7 @@ use Rattle.std.proofs.Common.{◌+◌, inr, refl, subst, ℕ}
 use Rattle.dvi_ops.specs.Command.Command.{Pre, PostPost}
 use Rattle.dvi_ops.specs.View.{head_view, tail_view}
 use Rattle.dvi_doc.specs.Order.{SpelledTo, reading, at_start}
+use Rattle.dvi_doc.specs.Standing.{definitions_at, fonts_in}
 use Rattle.dvi_doc.specs.Order.Part.{Behind}
 use Rattle.dvi_doc.proofs.Reached.{reach_start, reach_more}
 use Rattle.dvi_doc.proofs.Refuted.{pre_first}
@@ -39,7 +40,7 @@ returns-then-back-post-clause-fault c =
     let ending = c.in_ok-fonts.ensures.found in
     let last = c.in_ok-body.body.tail.back in
     let post = c.in_ok-body.body.post in
-    (reading Behind last post, c.in_ok-ends.back, 2, (ending.1 last post body.4, c.in_ok-ends.ends + 6, trailer.1), refl, c.if-back-post.true)
+    (reading Behind last post, c.in_ok-ends.back, 2, (ending.1.1 last post body.5, c.in_ok-ends.ends + 6, trailer.1), refl, c.if-back-post.true)
 
 pub returns-clause-found : goal.returns-clause-found
 returns-clause-found c =
@@ -51,6 +52,6 @@ returns-clause-found c =
     let ending = c.in_ok-fonts.ensures.found in
     let last : SpelledTo bytes c.in_ok-ends.ends (c.in_ok-ends.ends + 6) (PostPost b.post 2) =
     subst (λ (n : ℕ). SpelledTo bytes c.in_ok-ends.ends (c.in_ok-ends.ends + 6) (PostPost n 2)) c.if-back-post.false trailer.1 in
-    let f = file_from bytes c.in_ok-head.start b.next c.in_ok-ends.ends (head_view c.in_ok-head.head) b.post (tail_view b.tail) b.pages.items b.earlier.items c.in_ok-fonts.fonts
-    pre.0 pre.1 body.0 body.3 body.2 body.1 ending.0 trailer.0 last in
-    (f.0, f.1, (f.2, f.3, f.4, f.5, f.6))
+    let f = file_from bytes c.in_ok-head.start b.next c.in_ok-ends.ends (head_view c.in_ok-head.head) b.post (tail_view b.tail) b.pages.items (definitions_at bytes b.earlier.items) (fonts_in c.in_ok-fonts.fonts)
+    pre.0 pre.1 body.0 body.3 body.2 body.1 ending.1.0 trailer.0 last in
+    (f.0, f.1, (f.2, f.3, f.4, f.5, f.6), body.4, ending.0)

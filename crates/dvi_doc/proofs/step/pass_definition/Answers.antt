@@ -6,19 +6,13 @@ use Rattle.dvi_doc.specs.Order.{SpelledTo}
 use Rattle.dvi_doc.proofs.Standing.{spelled_once}
 use Rattle.dvi_doc.proofs.step.pass_definition.Goals as goal
 
-pub between-requires : goal.between-requires
-between-requires c =
-    let e = c.in_ok-end.ensures in
-    (defined (slice_range c.args.bytes.now c.args.at c.in_ok-end.end), e)
-
 pub returns-then-end-ends : goal.returns-then-end-ends
 returns-then-end-ends c =
     let bytes = c.args.bytes.now in
     let at = c.args.at in
     let end = c.in_ok-end.end in
-    let d : Definition = defined (slice_range bytes at end) in
-    let s : SpelledTo bytes at end (FntDef d) = c.in_ok-end.ensures in
-    (subst (λ (x : Definition). SpelledTo bytes at end (FntDef x)) (sym (c.between.ensures d s)) s, c.if-end-ends.true)
+    let s : SpelledTo bytes at end (FntDef (defined (slice_range bytes at end))) = c.in_ok-end.ensures in
+    (subst (λ (x : Definition). SpelledTo bytes at end (FntDef x)) (sym c.definition_of.ensures) s, c.if-end-ends.true)
 
 pub returns-in_err-end : goal.returns-in_err-end
 returns-in_err-end c = rw c.from_residual.ensures (λ d end s inside. c.in_err-end.ensures d end s.0 s.1 s.2)

@@ -1,4 +1,4 @@
-use Rattle.std.proofs.Common.{◌≡◌, ℕ, List, ◌++◌, length}
+use Rattle.std.proofs.Common.{ℕ, List, ◌++◌, take}
 use Rattle.dv_base.specs.Tray.{KeepsNames, Seen}
 use Rattle.dvitype_list.specs.Gathered.{Gathered}
 use Rattle.dvitype_list.specs.Texts.{font_lines}
@@ -9,10 +9,5 @@ invariant-loop-font g l =
     let seen = g.T.Tray.seen in
     record {
       keeps : KeepsNames (seen l.fn.tray) (seen l.tray);
-      done : List ℕ;
-      whole : done ++ font_lines l.fonts ≡ font_lines l.fn.fonts;
-      goes : (first : Seen) (text : List ℕ) → Gathered first (seen l.fn.tray) l.fn.out.kept.items text → Gathered first (seen l.tray) l.out.kept.items (text ++ done);
+      goes : (first : Seen) (text : List ℕ) → Gathered first (seen l.fn.tray) l.fn.out.kept.items text → Gathered first (seen l.tray) l.out.kept.items (text ++ font_lines (take l.font-index l.fn.doc.fonts));
     }
-
-abbrev pub decreases-loop-font : goal.decreases-loop-font
-decreases-loop-font g l = length l.fonts

@@ -1,4 +1,4 @@
-use Rattle.std.proofs.Common.{w64, ◌++◌, ◌∙◌, [], length, refl}
+use Rattle.std.proofs.Common.{w64, ◌++◌, ◌∙◌, [], length}
 use Rattle.std.proofs.lemmas.Int.{to_z-of_z}
 use Rattle.std.proofs.lemmas.List.{append-nil}
 use Rattle.dvitype_list.specs.Listing.{pages_run}
@@ -15,7 +15,7 @@ returns-in-Err-clause-fault g c = λ d is.
     let r = scene.doc.now in
     let seen = g.T.Tray.seen in
     head_cut (setting scene.conv r.fonts c.args.fonts.now) scene.detail d c.args.mag c.args.places.now (seen c.args.tray.now) (seen c.head_lines.new.tray) (head_text r.head c.args.mag (length r.pages)) (font_lines r.fonts)
-    (head_is c.one_document.ensures r d c.args.mag r.fonts c.requires.read is refl) ((rw (to_z-of_z w64 c.args.mag c.ranges.mag) at c.in-Err.ensures.cut) (seen c.args.tray.now) [] (gathered_start _ _ c.requires.start))
+    (head_is c.one_document.ensures r d c.args.mag c.requires.read is) ((rw (to_z-of_z w64 c.args.mag c.ranges.mag) at c.in-Err.ensures.cut) (seen c.args.tray.now) [] (gathered_start _ _ c.requires.start))
 
 pub returns-in-Err-font_lines-clause-fault : goal.returns-in-Err-font_lines-clause-fault
 returns-in-Err-font_lines-clause-fault g c = λ d is.
@@ -23,10 +23,9 @@ returns-in-Err-font_lines-clause-fault g c = λ d is.
     let r = scene.doc.now in
     let seen = g.T.Tray.seen in
     let head = head_text r.head c.args.mag (length r.pages) in
-    let fs = c.fonts.result in
     let ok = (rw (to_z-of_z w64 c.args.mag c.ranges.mag) at c.in_default.ensures.ok) (seen c.args.tray.now) [] (gathered_start _ _ c.requires.start) in
-    head_cut (setting scene.conv r.fonts c.args.fonts.now) scene.detail d c.args.mag c.args.places.now (seen c.args.tray.now) (seen c.font_lines.new.tray) (head ++ font_lines fs) []
-    (append-nil (head ++ font_lines fs) ∙ head_is c.one_document.ensures r d c.args.mag fs c.requires.read is c.fonts.ensures.fonts) (c.in-Err-font_lines.ensures.cut (seen c.args.tray.now) head ok)
+    head_cut (setting scene.conv r.fonts c.args.fonts.now) scene.detail d c.args.mag c.args.places.now (seen c.args.tray.now) (seen c.font_lines.new.tray) (head ++ font_lines r.fonts) []
+    (append-nil (head ++ font_lines r.fonts) ∙ head_is c.one_document.ensures r d c.args.mag c.requires.read is) (c.in-Err-font_lines.ensures.cut (seen c.args.tray.now) head ok)
 
 pub returns-in-Err-pages-clause-fault : goal.returns-in-Err-pages-clause-fault
 returns-in-Err-pages-clause-fault g c = λ d is.
@@ -35,11 +34,10 @@ returns-in-Err-pages-clause-fault g c = λ d is.
     let seen = g.T.Tray.seen in
     let first = seen c.args.tray.now in
     let mag = c.args.mag in
-    let fs = c.fonts.result in
     let head = head_text r.head mag (length r.pages) in
     let front = head_text d.head mag (length d.pages) ++ font_lines d.fonts in
     let ok = (rw (to_z-of_z w64 mag c.ranges.mag) at c.in_default.ensures.ok) first [] (gathered_start _ _ c.requires.start) in
-    let gathered = gathered_is first (seen c.font_lines.new.tray) c.font_lines.new.out.kept.items (head ++ font_lines fs) front (head_is c.one_document.ensures r d mag fs c.requires.read is c.fonts.ensures.fonts) (c.in_default-font_lines.ensures.ok first head ok) in
+    let gathered = gathered_is first (seen c.font_lines.new.tray) c.font_lines.new.out.kept.items (head ++ font_lines r.fonts) front (head_is c.one_document.ensures r d mag c.requires.read is) (c.in_default-font_lines.ensures.ok first head ok) in
     let s = setting scene.conv r.fonts c.pages.new.fonts in
     let told = g.S.Shelf.told in
     pages_cut s scene.detail d mag c.args.places.now c.pages.new.fonts (told c.args.shelf.now) (told c.pages.new.shelf) first (seen c.pages.new.tray) c.pages.new.out.kept.items c.in-Err-pages.fault
@@ -52,11 +50,10 @@ returns-in-Ok-clause-ok g c = λ d is.
     let seen = g.T.Tray.seen in
     let first = seen c.args.tray.now in
     let mag = c.args.mag in
-    let fs = c.fonts.result in
     let head = head_text r.head mag (length r.pages) in
     let front = head_text d.head mag (length d.pages) ++ font_lines d.fonts in
     let ok = (rw (to_z-of_z w64 mag c.ranges.mag) at c.in_default.ensures.ok) first [] (gathered_start _ _ c.requires.start) in
-    let gathered = gathered_is first (seen c.font_lines.new.tray) c.font_lines.new.out.kept.items (head ++ font_lines fs) front (head_is c.one_document.ensures r d mag fs c.requires.read is c.fonts.ensures.fonts) (c.in_default-font_lines.ensures.ok first head ok) in
+    let gathered = gathered_is first (seen c.font_lines.new.tray) c.font_lines.new.out.kept.items (head ++ font_lines r.fonts) front (head_is c.one_document.ensures r d mag c.requires.read is) (c.in_default-font_lines.ensures.ok first head ok) in
     let s = setting scene.conv r.fonts c.pages.new.fonts in
     let ran = c.in_default-pages.ensures.ok d is first front (page_start []) gathered c.requires.none in
     all_done s scene.detail d mag c.args.places.now first (seen c.done_line.new.tray) c.done_line.new.out.kept.items ran.behind ran.ends
@@ -69,11 +66,10 @@ returns-in-Err-done_line-clause-fault g c = λ d is.
     let seen = g.T.Tray.seen in
     let first = seen c.args.tray.now in
     let mag = c.args.mag in
-    let fs = c.fonts.result in
     let head = head_text r.head mag (length r.pages) in
     let front = head_text d.head mag (length d.pages) ++ font_lines d.fonts in
     let ok = (rw (to_z-of_z w64 mag c.ranges.mag) at c.in_default.ensures.ok) first [] (gathered_start _ _ c.requires.start) in
-    let gathered = gathered_is first (seen c.font_lines.new.tray) c.font_lines.new.out.kept.items (head ++ font_lines fs) front (head_is c.one_document.ensures r d mag fs c.requires.read is c.fonts.ensures.fonts) (c.in_default-font_lines.ensures.ok first head ok) in
+    let gathered = gathered_is first (seen c.font_lines.new.tray) c.font_lines.new.out.kept.items (head ++ font_lines r.fonts) front (head_is c.one_document.ensures r d mag c.requires.read is) (c.in_default-font_lines.ensures.ok first head ok) in
     let s = setting scene.conv r.fonts c.pages.new.fonts in
     let ran = c.in_default-pages.ensures.ok d is first front (page_start []) gathered c.requires.none in
     done_cut s scene.detail d mag c.args.places.now first (seen c.done_line.new.tray) ran.behind ran.ends

@@ -3,7 +3,7 @@ use Rattle.std.specs.Prelude.{slice_range}
 use Rattle.std.proofs.lemmas.Int.{to_z-of_z}
 use Rattle.dvi_ops.specs.Command.Command.{Fnt}
 use Rattle.dvi_ops.specs.Spelling.{Spell}
-use Rattle.dvi_ops.specs.View.{view}
+use Rattle.dvi_ops.specs.View.{def_view, view}
 use Rattle.font_set.specs.Fonts.{FontSet, place_of}
 use Rattle.font_set.specs.Found.{PageBytes}
 use Rattle.font_set.specs.Programs.{key_in, key_by}
@@ -21,7 +21,7 @@ returns-clause-selects c =
     let s = c.args.sheet.now in
     let p = c.args.place.now in
     let bytes = c.sheet.inside.bytes.now in
-    let def = c.in_ok-font.font in
+    let def = def_view c.in_ok-font.font in
     let k = c.in-Fnt.k in
     let id = c.in_ok-id.id in
     let next = c.in-Ok.next in

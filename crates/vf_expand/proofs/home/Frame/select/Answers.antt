@@ -1,7 +1,10 @@
 use Rattle.std.proofs.Common.{◌∙◌, ℤ, sym, ap, subst, w64}
 use Rattle.std.proofs.lemmas.Int.{to_z-of_z}
+use Rattle.dvi_ops.specs.Command.{Definition}
 use Rattle.dvi_doc.specs.Grammar.{Defines}
-use Rattle.font_set.specs.Programs.{select, id_of}
+use Rattle.dvi_doc.specs.View.{says}
+use Rattle.font_set.specs.Fonts.{place_of}
+use Rattle.font_set.specs.Programs.{select, id_of, key_by}
 use Rattle.vf_expand.proofs.Selecting.{key_none, key_one}
 use Rattle.vf_expand.proofs.home.Frame.select.Goals as goal
 
@@ -18,9 +21,10 @@ returns-in_ok-font-in-Page c =
     let ds = c.in-Page.doc.now.fonts in
     let found = c.in_ok-font-in-Page.ensures.found in
     let once = rw c.in-Page.is at c.requires.given in
-    let def = c.in_ok-font-in-Page.font in
+    let def = says c.in-Page.doc.now c.in_ok-font-in-Page.font.now in
     rw c.in-Page.is
     (c.id_of.ensures.value
+    ∙ ap (λ (d : Definition). place_of c.args.self.now.fonts.now.fonts (key_by d)) c.definition.ensures
     ∙ sym (ap (id_of c.args.self.now.fonts.now) (key_one ds def c.args.k found.0 (found.1 ∙ to_z-of_z w64 c.args.k c.ranges.k) (once c.args.k))))
 
 pub returns-in-Packet : goal.returns-in-Packet
